@@ -1,3 +1,5 @@
 pub mod Numbers
 pub mod Dates
 pub mod Codes
+pub mod Rolls
+pub mod Dockets

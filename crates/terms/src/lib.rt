@@ -2,6 +2,7 @@
 pub mod currency;
 pub mod cycle;
 pub mod date;
+pub mod docket;
 pub mod fault;
 pub mod file_kind;
 pub mod refusal;
