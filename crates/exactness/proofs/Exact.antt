@@ -11,21 +11,13 @@ use Rattle.exactness.specs.Acceptance.{Exactly}
 use Rattle.memberfile.specs.Layout.{FileValue}
 use Rattle.terms.specs.declared.fault.Fault.{Fault}
 use Rattle.memberfile.specs.declared.check.Summary.{Summary}
+use Rattle.memberfile.proofs.Summaries.{summed-err, summed-ok}
 use Rattle.exactness.proofs.Complete.{accepts}
 use Rattle.exactness.proofs.Sound.{sound}
 
 pub octets : (v : List ℕ) → ((i : ℕ) → getD v i 0 < 256) → Octets v
 octets [] h = tt
 octets (b ∷ v) h = (h 0, octets v (λ i. h (suc i)))
-
--- what a summary or a fault says of the verdict
-pub summed-ok : (v : Verdict) (m : Summary) → Ok m ≡ summed v → (f : FileValue) × (v ≡ Ok f) × (m ≡ summaryOf f)
-summed-ok (Ok f) m e = (f, refl, cc)
-summed-ok (Err x) m e = let z : _≡_ {A = ℕ} 0 1 = cc in absurd (omega arith)
-
-pub summed-err : (v : Verdict) (x : Fault) → Err x ≡ summed v → v ≡ Err x
-summed-err (Ok f) x e = let z : _≡_ {A = ℕ} 0 1 = cc in absurd (omega arith)
-summed-err (Err y) x e = cc
 
 pub exactly : (bs : List ℕ) (r : Result Summary Fault) → Octets bs → r ≡ summed (judge bs) → Exactly bs r
 exactly bs (Ok m) o e = let j = summed-ok (judge bs) m e in let s = sound bs (j .0) o (j .1) in (j .0, s .0, s .1, j .2)

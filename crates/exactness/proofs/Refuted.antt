@@ -35,7 +35,7 @@ use Rattle.wire.specs.declared.values.Presentation.{Presentation as Presentatio
 use Rattle.wire.specs.declared.values.Return.{Return as ReturnV}
 use Rattle.memberfile.specs.declared.check.Summary.{Summary}
 use Rattle.exactness.proofs.Complete.{Gets, gets-at, step-on, rows-on, batches-gets, whole-gets, head-step, through, through-header, through-batches, through-totals, withRows, batchWith, logOf, tally-++}
-use Rattle.exactness.proofs.Exact.{summed-ok, summed-err}
+use Rattle.memberfile.proofs.Summaries.{summed-err, summed-ok}
 use Rattle.exactness.proofs.Headers.{and-parts, said-in-range}
 use Rattle.exactness.proofs.Refuse.{ok-not, same-tag, frontOf, Fine, fine, turn-breaks, refuses}
 use Rattle.exactness.proofs.Sound.{AtBetween, AtBatch, Reached, same-totals}

@@ -1,3 +1,4 @@
 pub mod Steps
+pub mod Summaries
 pub mod Turns
 pub mod Walks

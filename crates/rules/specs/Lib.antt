@@ -1,2 +1,9 @@
+pub mod Ranges
 pub mod Order
 pub mod Meaning
+pub mod Denials
+pub mod Instruments
+pub mod Rankings
+pub mod Reports
+pub mod Books
+pub mod Sources

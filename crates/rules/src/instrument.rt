@@ -1,13 +1,27 @@
 // Instruments: which records a file may present, what they are worth, who pays, and whether they can be returned.
+ghost use Rattle.rules.specs.Denials.{refusalOf};
 ghost use Rattle.rules.specs.Meaning.{Limited, Meaning};
 ghost use mathlib.Core.Path.{_≡_};
 use terms::currency::Currency;
+use terms::refusal::Refusal;
 
 // Why an instrument does not admit a record.
 #[derive(Clone, Copy, Debug, PartialEq, Eq)]
 pub enum Denial {
     RecordType,
     Limits,
+}
+
+impl Denial {
+    // The refusal that a row gets for it.
+    pub fn refusal(self) -> Refusal
+        ensures { λ r. ⌜ r ≡ refusalOf self ⌝ }
+    {
+        match self {
+            Denial::RecordType => Refusal::RecordType,
+            Denial::Limits => Refusal::NotAdmitted,
+        }
+    }
 }
 
 pub trait Instrument {

@@ -9,9 +9,7 @@ use borrow.Author.Tests.{eq-eqb, ne-eqb, le-leb, lt-leb, lt-ltb, le-ltb, leb-tru
 use lib.Dec.{eqb, leb, ltb}
 use lib.ListN.{length, getD, take, drop, drop-of-length-le}
 use lib.Seq.{drop-cons, getD-take}
-use Rattle.std.specs.declared.option.Option.{Option}
-use Rattle.std.specs.declared.option.Option.the-variants.{Some, None}
-use Rattle.terms.specs.Rolls.{risesFrom, isRoll, oneOn, placeIn}
+use Rattle.terms.specs.Rolls.{isRoll, risesFrom}
 
 rises-cons : (n c : ℕ) (cs : List ℕ) → n < c → c ≤ 999 → risesFrom n (c ∷ cs) ≡ risesFrom c cs
 rises-cons n c cs a b = λ i. lt-ltb n c a i && (le-leb c 999 b i && risesFrom c cs)
@@ -31,31 +29,6 @@ rises-low n i cs h a = ap (risesFrom n) (drop-cons cs i 0 h) ∙ low-cons n (get
 
 pub rises-high : (n i : ℕ) (cs : List ℕ) → i < length cs → n < getD cs i 0 → 999 < getD cs i 0 → risesFrom n (drop i cs) ≡ false
 rises-high n i cs h a b = ap (risesFrom n) (drop-cons cs i 0 h) ∙ high-cons n (getD cs i 0) (drop (suc i) cs) a b
-
--- the place of a code behind i others
-abbrev pub plus : ℕ → Option ℕ → Option ℕ
-plus n None = None
-plus n (Some i) = Some (n + i)
-
-plus-zero : (o : Option ℕ) → plus 0 o ≡ o
-plus-zero None = refl
-plus-zero (Some i) = ap Some (omega arith)
-
-pub place-start : (cs : List ℕ) (code : ℕ) → placeIn cs code ≡ plus 0 (placeIn (drop 0 cs) code)
-place-start cs code = sym (plus-zero (placeIn cs code))
-
-plus-one : (n : ℕ) (o : Option ℕ) → plus n (oneOn o) ≡ plus (n + 1) o
-plus-one n None = refl
-plus-one n (Some i) = ap Some (omega arith)
-
-pub place-on : (i : ℕ) (cs : List ℕ) (code : ℕ) → i < length cs → (getD cs i 0 ≡ code → ⊥) → plus i (placeIn (drop i cs) code) ≡ plus (i + 1) (placeIn (drop (i + 1) cs) code)
-place-on i cs code h n = ap (λ x. plus i (placeIn x code)) (drop-cons cs i 0 h) ∙ ap (λ b. plus i (cond b (Some 0) (oneOn (placeIn (drop (suc i) cs) code)))) (ne-eqb (getD cs i 0) code n) ∙ plus-one i (placeIn (drop (suc i) cs) code) ∙ ap (λ k. plus (i + 1) (placeIn (drop k cs) code)) (sym (add-one i))
-
-pub place-here : (i : ℕ) (cs : List ℕ) (code : ℕ) → i < length cs → getD cs i 0 ≡ code → plus i (placeIn (drop i cs) code) ≡ Some i
-place-here i cs code h e = ap (λ x. plus i (placeIn x code)) (drop-cons cs i 0 h) ∙ ap (λ b. plus i (cond b (Some 0) (oneOn (placeIn (drop (suc i) cs) code)))) (eq-eqb (getD cs i 0) code e) ∙ ap Some (omega arith)
-
-pub place-none : (i : ℕ) (cs : List ℕ) (code : ℕ) → length cs ≤ i → plus i (placeIn (drop i cs) code) ≡ None
-place-none i cs code h = ap (λ x. plus i (placeIn x code)) (drop-of-length-le cs h)
 
 and-parts : (a b : Bool) → (a && b) ≡ true → (a ≡ true) × (b ≡ true)
 and-parts true b e = (refl, e)

@@ -20,7 +20,11 @@ abbrev pub oneOn : Option ℕ → Option ℕ
 oneOn None = None
 oneOn (Some i) = Some (suc i)
 
--- the place of a code on a roll, from 0
+-- the place of the first element of which something holds, from 0
+abbrev pub firstPlace : {A : Type 0} → (A → Bool) → List A → Option ℕ
+firstPlace P [] = None
+firstPlace P (x ∷ xs) = cond (P x) (Some 0) (oneOn (firstPlace P xs))
+
+-- the place of a code on a roll
 abbrev pub placeIn : List ℕ → ℕ → Option ℕ
-placeIn [] code = None
-placeIn (c ∷ cs) code = cond (eqb c code) (Some 0) (oneOn (placeIn cs code))
+placeIn cs code = firstPlace (λ c. eqb c code) cs

@@ -1,0 +1,11 @@
+pub mod Sums
+pub mod Shares
+pub mod Marks
+pub mod Amounts
+pub mod Last
+pub mod Step
+pub mod State
+pub mod Turn
+pub mod Front
+pub mod Grown
+pub mod Pairs

@@ -1,0 +1,5 @@
+pub mod Choices
+pub mod Table
+pub mod Balances
+pub mod Positions
+pub mod Laws

@@ -1,0 +1,5 @@
+pub mod Admits
+pub mod Going
+pub mod Orders
+pub mod Rolls
+pub mod Within

@@ -1,0 +1,4 @@
+pub mod Ledger
+pub mod Refusals
+pub mod Rows
+pub mod Files
