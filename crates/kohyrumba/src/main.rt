@@ -2,9 +2,11 @@
 mod check_files;
 mod money;
 mod records;
+mod run_console;
 mod usage;
 
 use crate::check_files::check_files;
+use crate::run_console::run_console;
 use crate::usage::bad_usage;
 use crate::usage::show_usage;
 use crate::usage::show_version;
@@ -17,6 +19,7 @@ fn run(rt: &LibcRuntime, words: &[String]) -> Result<(), AnyError> {
     };
     match command.as_str() {
         "check" => check_files(rt, rest),
+        "console" => run_console(rt),
         "--help" | "-h" | "help" => show_usage(rt),
         "--version" | "-V" => show_version(rt),
         _ => bad_usage(rt, "no such command"),
