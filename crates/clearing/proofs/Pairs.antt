@@ -30,12 +30,19 @@ regrouped false a b w = (refl, refl)
 
 module _ (es : List Entry) (C : Choice) where
   -- every entry has one payer, and one receiver
-  all-sides : (side : Entry → ℕ) → ((i : ℕ) → side (entryAt es i) < 64) → upTo (λ m. total (isOn side m) es C) 64 ≡ upTo (λ i. cond (C i) (entryAt es i .worth) 0) (length es)
+  all-sides : (n : ℕ) (side : Entry → ℕ) → ((i : ℕ) → i < length es → side (entryAt es i) < n) → upTo (λ m. total (isOn side m) es C) n ≡ upTo (λ i. cond (C i) (entryAt es i .worth) 0) (length es)
   unfolding total
-  all-sides side h =
-      upTo-swap (λ m. share (isOn side m) es C) 64 (length es)
-      ∙ upTo-same (λ i. upTo (λ m. share (isOn side m) es C i) 64) (λ i. cond (C i) (entryAt es i .worth) 0) (length es)
-      (λ i l. upTo-one (C i) (side (entryAt es i)) (entryAt es i .worth) 64 (h i))
+  all-sides n side h =
+      upTo-swap (λ m. share (isOn side m) es C) n (length es)
+      ∙ upTo-same (λ i. upTo (λ m. share (isOn side m) es C i) n) (λ i. cond (C i) (entryAt es i .worth) 0) (length es)
+      (λ i l. upTo-one (C i) (side (entryAt es i)) (entryAt es i .worth) n (h i l))
+
+  -- where every entry is between the first n places, their positions add up to zero
+  pub cancel-on : (n : ℕ) → ((i : ℕ) → i < length es → entryAt es i .payer < n) → ((i : ℕ) → i < length es → entryAt es i .receiver < n) → signedUpTo (position es C) n ≡ pos 0
+  cancel-on n p r =
+      apart (received es C) (paid es C) n
+      ∙ ap (λ (x : ℕ). pos x -ℤ pos (upTo (paid es C) n)) (all-sides n receiverOf r ∙ sym (all-sides n payerOf p))
+      ∙ +ℤ-invr (pos (upTo (paid es C) n))
 
   -- what a member pays goes to some member
   all-paid : ((i : ℕ) → entryAt es i .receiver < 64) → (m : ℕ) → upTo (λ b. paidTo es C m b) 64 ≡ paid es C m
@@ -62,11 +69,7 @@ module _ (es : List Entry) (C : Choice) where
       ∙ upTo-one (C i && eqb (e .receiver) m) (e .payer) (e .worth) 64 (h i))
 
 pub cancel : PositionsCancel
-cancel ps C =
-    let es = entries ps in
-    apart (received es C) (paid es C) 64
-    ∙ ap (λ (x : ℕ). pos x -ℤ pos (upTo (paid es C) 64)) (all-sides es C receiverOf (receivers ps) ∙ sym (all-sides es C payerOf (payers ps)))
-    ∙ +ℤ-invr (pos (upTo (paid es C) 64))
+cancel ps C = cancel-on (entries ps) C 64 (λ i l. payers ps i) (λ i l. receivers ps i)
 
 pub opposite : BilateralsOpposite
 opposite es C a b = turned (paidTo es C b a) (paidTo es C a b)

@@ -2,3 +2,5 @@ pub mod Ledger
 pub mod Refusals
 pub mod Rows
 pub mod Files
+pub mod Settled
+pub mod Questions

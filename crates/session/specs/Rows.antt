@@ -25,7 +25,7 @@ use Rattle.clearing.specs.Choices.{entryAt, noEntry}
 use Rattle.clearing.specs.declared.entry.Entry.{Entry}
 use Rattle.table.specs.Entries.{recordIn, struck}
 use Rattle.session.specs.Ledger.{placeOn}
-use Rattle.session.specs.Refusals.{firstHolding, rule, unless}
+use Rattle.session.specs.Refusals.{Rule, firstHolding, rule, unless}
 use Rattle.session.specs.declared.session.Sender.{Sender}
 
 -- a presentation
@@ -56,13 +56,15 @@ otherWrong day s other = not (isSome (placeIn (day .roll) other)) || eqb other (
 abbrev pub referenceUsed : Sender → List Entry → ℕ → Bool
 referenceUsed s es reference = eqb reference 0 || isSome (recordIn es (s .code) reference)
 
-abbrev pub presentationRefusal : Day → Meaning → Sender → List Entry → PresentationV → Option Refusal
-presentationRefusal day m s es p =
-    firstHolding
+abbrev pub presentationRules : Day → Meaning → Sender → List Entry → PresentationV → List Rule
+presentationRules day m s es p =
     (rule OtherMember (otherWrong day s (p .other)) ∷
     rule RecordType (typeDenied (admission day m p)) ∷
     rule NotAdmitted (limitsDenied (admission day m p)) ∷
     rule ReferenceUsed (referenceUsed s es (p .reference)) ∷ [])
+
+abbrev pub presentationRefusal : Day → Meaning → Sender → List Entry → PresentationV → Option Refusal
+presentationRefusal day m s es p = firstHolding (presentationRules day m s es p)
 
 -- the entry of a presentation that is taken: the sender or the other member pays, and the other party receives
 abbrev pub entryFor : Day → Meaning → Sender → PresentationV → Entry

@@ -6,8 +6,11 @@ use terms::docket::Docket;
 
 pub mod admit;
 pub mod intake;
+pub mod mark;
 pub mod opening;
+pub mod questions;
 pub mod rows;
+pub mod settle;
 
 // The last accepted file number of each member, by its place on the roll; 0 before the first.
 #[derive(Clone, Copy)]

@@ -13,7 +13,7 @@ use terms::fault::Fault;
 
 impl Session {
     // Takes the file in, or refuses it; an accepted file leaves one outcome byte for each of its rows.
-    pub(crate) fn intake<I: Instrument>(
+    pub fn intake<I: Instrument>(
         &mut self,
         instrument: &I,
         file: &[u8],

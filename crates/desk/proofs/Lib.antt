@@ -1,0 +1,4 @@
+pub mod OnRoll
+pub mod Promised
+pub mod Runs
+pub mod Steps
