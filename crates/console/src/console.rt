@@ -1,34 +1,39 @@
-// What the console holds between two lines: a docket, a source of each kind, and a file of the writer.
+// What the console holds between two lines: a docket, a session, a source of each kind, and a file of the writer.
 use crate::answer::Answer;
 use crate::draft::Draft;
 use crate::misread::Misread;
 use crate::words::words_of;
 use rules::sources::pledges::Pledges;
 use rules::sources::statement::Statement;
+use session::session::Session;
+use std::alloc::Global;
 use terms::docket::Docket;
 
+mod calls;
 mod sources;
-mod writing;
+pub mod writing;
 
 #[derive(Drop)]
 pub struct Console {
     docket: Docket,
+    session: Session,
     statement: Statement,
     pledges: Pledges,
     draft: Option<Draft>,
 }
 
 // Whether a line is no command: blank, or a comment.
-fn is_silent(line: &str) -> bool {
+pub fn is_silent(line: &str) -> bool {
     let text = line.trim();
     text.is_empty() || text.starts_with('#')
 }
 
 impl Console {
-    // The console at its start: the built-in docket, and sources that know of no member.
-    pub fn new() -> Console {
+    // The console at its start: the built-in docket, a session of it without places, and sources that know of no member.
+    pub fn new(heap: Global) -> Console {
         Console {
             docket: Docket::built_in(),
+            session: Session::open(Docket::built_in(), Vec::new(heap)),
             statement: Statement::new(),
             pledges: Pledges::new(),
             draft: None,
@@ -54,6 +59,13 @@ impl Console {
             "pledges" => self.empty_pledges(rest),
             "report" => self.report(rest),
             "pledge" => self.pledge(rest),
+            "open" => self.open_session(rt.alloc(), rest),
+            "intake" => self.intake(rt, rest),
+            "clear" => self.clear(rest),
+            "position" => self.position(rest),
+            "bilateral" => self.bilateral(rest),
+            "cover" => self.cover(rest),
+            "mark" => self.mark(rest),
             "wopen" => self.open_file(rt.alloc(), rest),
             "wbatch" => self.open_batch(rt.alloc(), rest),
             "wput6" => self.put_presentation(rt.alloc(), rest),

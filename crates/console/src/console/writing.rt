@@ -25,7 +25,7 @@ const OUT_OF_RANGE: Header = Header {
 };
 
 // The header to open a file with. One out of range says nothing more, so that any other such header stands for it.
-fn header_of(raw: RawHeader) -> Header {
+pub fn header_of(raw: RawHeader) -> Header {
     match Header::of(raw) {
         Some(header) => header,
         None => OUT_OF_RANGE,
