@@ -1,12 +1,13 @@
 -- Runs of calls.
 use mathlib.Core.List.{List, [], _∷_, _++_}
-use mathlib.Core.Path.{_≡_, sym, subst}
+use mathlib.Core.Path.{_≡_, refl, sym, subst}
 use Prim.Native.Nat.{ℕ}
 use Rattle.std.specs.Iters.{folded}
 use Rattle.std.proofs.shelf.Sums.{folded-push}
 use Rattle.terms.specs.Dockets.{Day}
 use Rattle.session.specs.declared.session.Session.{Session}
 use Rattle.desk.specs.Books.{Book, Meant, Says, Told, after, fresh, run}
+use Rattle.desk.specs.Calls.{leftBy, leftIn}
 use Rattle.desk.specs.Promises.{Promise}
 use Rattle.desk.specs.Stands.{Does, Keeps, Stands}
 use Rattle.desk.specs.declared.calls.Answer.{Answer}
@@ -17,6 +18,10 @@ told-push b [] [] m a t s = (s, tt)
 told-push b [] (x ∷ rs) m a t s = absurd t
 told-push b (y ∷ ms) [] m a t s = absurd t
 told-push b (y ∷ ms) (x ∷ rs) m a t s = (t .0, told-push (after b y) ms rs m a (t .1) s)
+
+pub left-push : (b : Book) (ms : List Meant) (m : Meant) (out : List ℕ) → leftBy b (ms ++ (m ∷ [])) out ≡ leftIn (folded after b ms .ledger) m (leftBy b ms out)
+left-push b [] m out = refl
+left-push b (y ∷ ms) m out = left-push (after b y) ms m (leftIn (b .ledger) y out)
 
 -- one call more
 pub stands-push : (day : Day) (n : ℕ) (h : List Meant) (m : Meant) (s : Session) → Keeps (after (run day n h) m) s → Stands day n (h ++ (m ∷ [])) s

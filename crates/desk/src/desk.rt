@@ -1,7 +1,7 @@
 // One call, and a list of calls upon a newly opened session.
 ghost use Prim.Native.Nat.{ℕ, min};
 ghost use Rattle.desk.specs.Books.{Meant, Told, clears, fresh, sends};
-ghost use Rattle.desk.specs.Calls.{leftIn, meaning};
+ghost use Rattle.desk.specs.Calls.{leftBy, leftIn, meaning};
 ghost use Rattle.desk.specs.Promises.{Promise};
 ghost use Rattle.desk.specs.Stands.{Does, Stands};
 ghost use Rattle.session.specs.Ledger.{ledgerOf};
@@ -75,6 +75,7 @@ pub fn replay<I: Instrument, R: Ranking, C: CoverSource>(
     ensures made { λ r. ⌜ r .1 ≡ min (length (now (calls .entry))) (length (now (answers .entry))) ⌝ }
     ensures stands { λ r. ⌜ Stands (dayOf docket) (min (vec-len places) 4096) (map (meaning (I·Instrument .meaning) (R·Ranking .ahead) (C·CoverSource .covers) (length (now (out .entry)))) (take (r .1) (now (calls .entry)))) (r .0) ⌝ }
     ensures told { λ r. ⌜ Told (fresh (dayOf docket) (min (vec-len places) 4096)) (map (meaning (I·Instrument .meaning) (R·Ranking .ahead) (C·CoverSource .covers) (length (now (out .entry)))) (take (r .1) (now (calls .entry)))) (take (r .1) (now (answers .exit))) ⌝ }
+    ensures out { λ r. ⌜ now (out .exit) ≡ leftBy (fresh (dayOf docket) (min (vec-len places) 4096)) (map (meaning (I·Instrument .meaning) (R·Ranking .ahead) (C·CoverSource .covers) (length (now (out .entry)))) (take (r .1) (now (calls .entry)))) (now (out .entry)) ⌝ }
     ensures rest { λ r. ⌜ drop (r .1) (now (answers .exit)) ≡ drop (r .1) (now (answers .entry)) ⌝ }
     ensures promise { λ r. ⌜ Promise (dayOf docket) (min (vec-len places) 4096) (map (meaning (I·Instrument .meaning) (R·Ranking .ahead) (C·CoverSource .covers) (length (now (out .entry)))) (take (r .1) (now (calls .entry)))) (r .0) ⌝ }
 {

@@ -9,17 +9,17 @@ use Rattle.terms.specs.Dockets.{Day, dayOf}
 use Rattle.session.specs.Ledger.{Ledger, opened}
 use Rattle.session.specs.declared.session.Session.{Session}
 use Rattle.desk.specs.Books.{Meant, Told, fresh, run}
-use Rattle.desk.specs.Calls.{meaning}
+use Rattle.desk.specs.Calls.{leftBy, leftIn, meaning}
 use Rattle.desk.specs.Stands.{Does, Stands}
 use Rattle.desk.specs.declared.calls.Answer.{Answer}
 use Rattle.desk.proofs.Promised.{promised}
-use Rattle.desk.proofs.Runs.{stands-push, told-push}
+use Rattle.desk.proofs.Runs.{left-push, stands-push, told-push}
 use Rattle.desk.proofs.desk.replay.Needs as need
 
 pub loop-i-holds : need.loop-i-holds
 loop-i-holds g c =
     let e = c .open-s .ensures .ledger in
-    (record { ledger = e ∙ (λ i. opened (sym (ap (λ (l : Ledger). l .day) e) i) (sym (ap (λ (l : Ledger). l .capacity) e) i)); state = c .open-s .ensures .cleared }, tt, refl)
+    (record { ledger = e ∙ (λ i. opened (sym (ap (λ (l : Ledger). l .day) e) i) (sym (ap (λ (l : Ledger). l .capacity) e) i)); state = c .open-s .ensures .cleared }, tt, refl, refl)
 
 pub loop-i-again : need.loop-i-again
 loop-i-again g c =
@@ -37,10 +37,12 @@ loop-i-again g c =
     let lr : i < length rs = omega (arith, c .min-n .ensures, c .loop-i-test .taken, c .loop-i .kept .answers) in
     let h : List Meant = map f (take i ks) in
     let does = subst (λ (j : ℕ). Does (mk j k) (c .loop-i .s) (c .act .last .s) a) (c .loop-i .kept .out) (c .act .ensures .does) in
-    let e : map f (take (i + 1) ks) ≡ h ++ (f k ∷ []) = map-more f ks i k lk ∙ ap (λ x. h ++ (f x ∷ [])) (sym (c .index-calls-i .is)) in (
+    let e : map f (take (i + 1) ks) ≡ h ++ (f k ∷ []) = map-more f ks i k lk ∙ ap (λ x. h ++ (f x ∷ [])) (sym (c .index-calls-i .is)) in
+    let wrote : c .act .last .out ≡ leftBy (fresh day n) (h ++ (f k ∷ [])) (c .args .out .now) = c .act .ensures .out ∙ (λ j. leftIn (was .0 .ledger j) (mk (c .loop-i .kept .out j) k) (was .2 j)) ∙ sym (left-push (fresh day n) h (f k) (c .args .out .now)) in (
       subst (λ (x : List Meant). Stands day n x (c .act .last .s)) (sym e) (stands-push day n h (f k) (c .act .last .s) (does .keeps (run day n h) (was .0))),
       subst₂ (λ (x : List Meant) (y : List Answer). Told (fresh day n) x y) (sym e) (sym (take-more-set rs i a lr)) (told-push (fresh day n) h (take i rs) (f k) a (was .1) (does .says (run day n h) (was .0))),
-      drop-set-lt (i + 1) rs i a (omega arith) ∙ sym (drop-drop 1 i rs) ∙ ap (drop 1) (was .2) ∙ drop-drop 1 i (c .args .answers .now),
+      wrote ∙ ap (λ (x : List Meant). leftBy (fresh day n) x (c .args .out .now)) (sym e),
+      drop-set-lt (i + 1) rs i a (omega arith) ∙ sym (drop-drop 1 i rs) ∙ ap (drop 1) (was .3) ∙ drop-drop 1 i (c .args .answers .now),
     )
 
 pub returns : need.returns
@@ -58,6 +60,7 @@ returns g c =
       made = c .min-n .ensures;
       stands = st;
       told = subst (λ (d : Day). Told (fresh d most) (map f (take (c .min-n .result) ks)) (take (c .min-n .result) rs)) day (subst₂ (λ (n j : ℕ). Told (fresh (dayOf (c .open-s .result .docket)) n) (map f (take j ks)) (take j rs)) cap at (was .1));
-      rest = subst (λ (j : ℕ). drop j rs ≡ drop j (c .args .answers .now)) at (was .2);
+      out = subst (λ (d : Day). c .loop-i .out ≡ leftBy (fresh d most) (map f (take (c .min-n .result) ks)) (c .args .out .now)) day (subst₂ (λ (n j : ℕ). c .loop-i .out ≡ leftBy (fresh (dayOf (c .open-s .result .docket)) n) (map f (take j ks)) (c .args .out .now)) cap at (was .2));
+      rest = subst (λ (j : ℕ). drop j rs ≡ drop j (c .args .answers .now)) at (was .3);
       promise = promised _ _ _ (c .loop-i .s) st;
     }
