@@ -1,0 +1,13 @@
+use mathlib.Core.Path.{sym, ap, _∙_}
+use mathlib.Core.List.{[], _∷_}
+use borrow.Author.Needs.{needs}
+use Rattle.pen.proofs.Lent.{wrote-as, wrote-more}
+use Rattle.wire.specs.Bytes.{inBytes}
+use Rattle.result.proofs.Written.{wrote-into}
+use Rattle.result.proofs.records.write_member.Needs as need
+
+pub returns : need.returns
+returns c =
+    let w = wrote-more (c .write-head .ensures .wrote) (wrote-more (c .u16 .ensures .wrote) (wrote-more (c .u64 .ensures .wrote) (c .u64-2 .ensures .wrote))) in
+    let n = sym (c .u64-2 .ensures .name ∙ c .u64 .ensures .name ∙ c .u16 .ensures .name ∙ c .write-head .ensures .name) in
+    ?

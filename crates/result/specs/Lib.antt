@@ -1,0 +1,4 @@
+pub mod Gathered
+pub mod Layout
+pub mod Value
+pub mod Answers
