@@ -1,3 +1,4 @@
 pub mod Gathering
 pub mod Written
 pub mod Numbers
+pub mod Answered
