@@ -53,3 +53,7 @@ withdrawn-long es = each-length encWithdrawn 18 withdrawn-bytes es
 -- the buffer under another name
 pub wrote-into : {xs ys zs vs : List ℕ} {at a : ℕ} → Wrote xs at ys zs a → vs ≡ zs → Wrote xs at ys vs a
 wrote-into {xs} {ys} {at = at} {a = a} w e = subst (λ (z : List ℕ). Wrote xs at ys z a) (sym e) w
+
+-- and the place behind it
+pub wrote-there : {xs ys zs vs : List ℕ} {at a b : ℕ} → Wrote xs at ys zs a → vs ≡ zs → b ≡ a → Wrote xs at ys vs b
+wrote-there {xs} {ys} {vs = vs} {at = at} w e l = subst (λ k. Wrote xs at ys vs k) (sym l) (wrote-into w e)

@@ -5,7 +5,8 @@ use mir.Syntax.{w64}
 use mir.Val.{SFits}
 use Rattle.std.proofs.shelf.Signed.{toZ-ofZ}
 use Rattle.session.specs.Questions.{positionAt}
-use Rattle.result.specs.Layout.{positive}
+use Rattle.result.specs.Layout.{positive, positiveSum}
+use Rattle.result.specs.Value.{linesUpTo}
 use Rattle.result.proofs.Numbers.{position-low, sum-more, sum-none}
 use Rattle.result.proofs.sums.positive_sum.Needs as need
 
@@ -29,4 +30,7 @@ loop-m-again c =
     (omega (arith, adds c, sum-more s m, c .loop-m .inv .0), omega (arith, adds c, position-low s m, c .loop-m .inv .1))
 
 pub returns : need.returns
-returns c = ?
+returns c =
+    let s = c .args .session .now in
+    let end : c .loop-m .m ≡ c .args .members = omega (arith, c .loop-m .kept .m-end, c .loop-m-test .left) in
+    record { value = c .loop-m .inv .0 ∙ ap (λ k. positiveSum (linesUpTo s k)) end; low = omega (arith, c .loop-m .inv .1, end, c .pre) }
