@@ -3,9 +3,11 @@ use mathlib.Core.Path.{_≡_, refl, sym, ap, _∙_}
 use mathlib.Core.Bool.{Bool, true, false, cond, not}
 use mathlib.Core.List.{List, [], _∷_, _++_}
 use mathlib.Core.Logic.{inl, inr}
-use Prim.Native.Nat.{ℕ, _+_, _*_, _≤_, _<_}
+use Prim.Native.Nat.{ℕ, zero, suc, _+_, _*_, _≤_, _<_}
+use native.Mathlib.Numerals.{add-one}
 use native.Mathlib.Omega.{arith}
 use borrow.Author.Tests.{le-ltb, lt-ltb}
+use lib.Dec.{ltb}
 use lib.ListN.{length, length-append}
 use Rattle.std.proofs.shelf.Lists.{getD-past}
 use Rattle.std.proofs.shelf.Tests.{cases-lt}
@@ -24,14 +26,18 @@ use Rattle.clearing.specs.declared.entry.Entry.{Entry}
 use Rattle.table.specs.Entries.{entriesOf, entryIn, keptOf}
 use Rattle.pen.specs.Buffer.{Wrote, fronted}
 use Rattle.pen.proofs.Lent.{wrote-as, wrote-front, wrote-more}
+use Rattle.table.proofs.Held.{held-long}
+use Rattle.session.proofs.Rolls.{roll-few}
+use Rattle.session.specs.Questions.{markOf}
 use Rattle.session.specs.Refusals.{firstHolding, rule, unless}
 use Rattle.session.specs.declared.session.Session.{Session}
 use Rattle.session.specs.declared.session.mark.Mark.the-variants.{Unmarked, Kept, Withdrawn, Returned}
 use Rattle.result.specs.Answers.{resultAnswer, resultBytes}
 use Rattle.result.specs.Gathered.{eachOf}
-use Rattle.result.specs.Layout.{encHeader, encMember, encTotals, encWithdrawn, positiveSum}
-use Rattle.result.specs.Value.{isWithdrawn, lineAt, linesOf, linesUpTo, listed, withdrawnAt, withdrawnOf, withdrawnUpTo}
-use Rattle.result.proofs.Gathering.{gathered-more, gathered-ones}
+use Rattle.result.specs.Layout.{FitsTotals, encHeader, encMember, encTotals, encWithdrawn, positiveSum}
+use Rattle.result.specs.Value.{isWithdrawn, lineAt, linesOf, linesUpTo, listed, resultOf, withdrawnAt, withdrawnOf, withdrawnUpTo}
+use Rattle.result.proofs.Gathering.{gathered-more, gathered-none, gathered-ones}
+use Rattle.result.proofs.Numbers.{sum-low}
 use Rattle.result.proofs.Written.{members-long, withdrawn-long}
 
 -- nothing past the last entry is withdrawn
@@ -70,6 +76,9 @@ result-long s =
     let t = encTotals (length ms) (length ws) (positiveSum ms) in
     omega (arith, length-append (eachOf encMember ms) (eachOf encWithdrawn ws ++ t), length-append (eachOf encWithdrawn ws) t, members-long ms, withdrawn-long ws, gathered-ones (lineAt s) (length (rollOf (s .docket))))
 
+pub answers-not-cleared : (s : Session) (room : ℕ) → s .cleared ≡ false → Err NotCleared ≡ resultAnswer s room
+answers-not-cleared s room e = sym (λ i. unless (firstHolding (rule NotCleared (not (e i)) ∷ rule BufferShort (ltb room (length (resultBytes s))) ∷ [])) (length (resultBytes s)))
+
 pub answers-short : (s : Session) (room : ℕ) → s .cleared ≡ true → room < length (resultBytes s) → Err BufferShort ≡ resultAnswer s room
 answers-short s room e h = sym (λ i. unless (firstHolding (rule NotCleared (not (e i)) ∷ rule BufferShort (lt-ltb room (length (resultBytes s)) h i) ∷ [])) (length (resultBytes s)))
 
@@ -87,3 +96,24 @@ all-written s currency cycle date members withdrawn sum a b d em ew es h p q t =
     let he : encHeader (dayOf (s .docket) .currency) (dayOf (s .docket) .cycle) (dayOf (s .docket) .date) ≡ encHeader currency cycle date = λ i. encHeader (sym a i) (sym b i) (sym d i) in
     let te : encTotals (length (linesOf s)) (length (withdrawnOf s)) (positiveSum (linesOf s)) ≡ encTotals members withdrawn sum = λ i. encTotals (m i) (sym ew i) (v i) in
     wrote-front (wrote-more (wrote-as he h) (wrote-more p (wrote-more q (wrote-as te t))))
+
+one-at-most : (s : Session) (i : ℕ) → length (withdrawnAt s i) ≤ 1
+one-at-most s i =
+    let e = entryAt (entriesOf (s .table)) i in
+    elim (isWithdrawn (markOf s i)) as (λ v. length (cond v (e ∷ []) []) ≤ 1) [ true ↦ omega arith | false ↦ omega arith ]
+
+withdrawn-few : (s : Session) (n : ℕ) → length (withdrawnUpTo s n) ≤ n
+withdrawn-few s zero = omega (arith, ap length (gathered-none (withdrawnAt s)))
+withdrawn-few s (suc n) =
+    omega (arith, ap (λ k. length (withdrawnUpTo s k)) (add-one n), ap length (gathered-more (withdrawnAt s) n), length-append (withdrawnUpTo s n) (withdrawnAt s n), one-at-most s n, withdrawn-few s n)
+
+pub totals-fit : (s : Session) → FitsTotals (resultOf s)
+totals-fit s =
+    let n = length (rollOf (s .docket)) in
+    let few = roll-few (s .docket) in
+    let t = s .table in
+    record {
+      members = omega (arith, gathered-ones (lineAt s) n, few);
+      withdrawn = omega (arith, withdrawn-few s (length (entriesOf t)), held-long t, t .within, t .small);
+      sum = omega (arith, sum-low s n, few);
+    }

@@ -3,7 +3,8 @@ use mathlib.Core.Path.{_≡_, refl, sym, ap, _∙_}
 use mathlib.Core.Bool.{Bool, true, false, cond}
 use mathlib.Core.List.{List, [], _∷_, _++_}
 use Prim.Native.Nat.{ℕ, zero, suc, _+_, _-_, _*_, _%_, _^_, _≤_, _<_}
-use native.Mathlib.Nat.{mod-eq-of-lt, add-assoc, zero-add}
+use native.Mathlib.Nat.{add-assoc, zero-add}
+use native.Mathlib.Numerals.{add-one}
 use native.Mathlib.Omega.{arith}
 use lib.Dec.{ltb}
 use lib.IntN.{ℤ, pos, negsuc, _-ℤ_}
@@ -52,3 +53,8 @@ sum-none s = ap positiveSum (gathered-none (λ i. lineAt s i ∷ []))
 -- one member more
 pub sum-more : (s : Session) (m : ℕ) → positiveSum (linesUpTo s (m + 1)) ≡ positiveSum (linesUpTo s m) + positive (positionAt s m)
 sum-more s m = omega (arith, ap positiveSum (gathered-more (λ i. lineAt s i ∷ []) m), sum-append (linesUpTo s m) (lineAt s m ∷ []))
+
+-- the sum over the first n members
+pub sum-low : (s : Session) (n : ℕ) → positiveSum (linesUpTo s n) ≤ n * 409600000000
+sum-low s zero = omega (arith, sum-none s)
+sum-low s (suc n) = omega (arith, ap (λ k. positiveSum (linesUpTo s k)) (add-one n), sum-more s n, position-low s n, sum-low s n)

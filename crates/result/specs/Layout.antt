@@ -1,6 +1,6 @@
 -- The layout of a result file: a header, a record for each member, a record for each withdrawn record, and the totals.
 use mathlib.Core.List.{List, [], _∷_, _++_}
-use Prim.Native.Nat.{ℕ, _+_, _-_, _%_, _^_}
+use Prim.Native.Nat.{ℕ, _+_, _-_, _%_, _^_, _<_}
 use lib.IntN.{ℤ, pos, negsuc}
 use lib.ListN.{length}
 use Rattle.terms.specs.Numbers.{currencyNumber, cycleNumber}
@@ -60,3 +60,9 @@ encodeResult v =
     ++ (eachOf encMember (v .members)
     ++ (eachOf encWithdrawn (v .withdrawn)
     ++ encTotals (length (v .members)) (length (v .withdrawn)) (positiveSum (v .members))))
+
+-- the totals fit the bytes that they are given
+pub record FitsTotals (v : ResultValue) : Type 0 where
+  pub members : length (v .members) < 2 ^ 16
+  pub withdrawn : length (v .withdrawn) < 2 ^ 16
+  pub sum : positiveSum (v .members) < 2 ^ 64

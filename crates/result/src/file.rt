@@ -3,8 +3,8 @@ ghost use Prim.Native.Nat.{_+_, _*_, _≤_};
 ghost use Rattle.pen.specs.Buffer.{Wrote, fronted};
 ghost use Rattle.result.specs.Answers.{resultAnswer, resultBytes};
 ghost use Rattle.result.specs.Gathered.{eachOf};
-ghost use Rattle.result.specs.Layout.{encMember, encWithdrawn};
-ghost use Rattle.result.specs.Value.{lineAt, linesOf, withdrawnOf};
+ghost use Rattle.result.specs.Layout.{FitsTotals, encMember, encWithdrawn};
+ghost use Rattle.result.specs.Value.{lineAt, linesOf, resultOf, withdrawnOf};
 ghost use Rattle.std.specs.Results.{Cases};
 ghost use Rattle.terms.specs.Dockets.{rollOf};
 ghost use lib.ListN.{drop, length};
@@ -12,6 +12,10 @@ ghost use mathlib.Core.Bool.{true};
 ghost use mathlib.Core.List.{_++_};
 ghost use mathlib.Core.Path.{_≡_};
 use crate::member_line::MemberLine;
+use crate::records::HEADER_BYTES;
+use crate::records::MEMBER_BYTES;
+use crate::records::TOTALS_BYTES;
+use crate::records::WITHDRAWN_BYTES;
 use crate::records::write_header;
 use crate::records::write_member;
 use crate::records::write_totals;
@@ -21,12 +25,6 @@ use crate::withdrawn::withdrawn_at;
 use crate::withdrawn::withdrawn_in;
 use session::session::Session;
 use terms::refusal::Refusal;
-
-// The lengths of the records, each with its tag and the length of its value.
-const HEADER_BYTES: usize = 9;
-const MEMBER_BYTES: usize = 21;
-const WITHDRAWN_BYTES: usize = 18;
-const TOTALS_BYTES: usize = 15;
 
 // How many members the session's roll has.
 fn members_in(session: &Session) -> usize
@@ -95,6 +93,7 @@ fn write_records(session: &Session, out: &mut [u8], members: usize, withdrawn: u
 // Writes the result file at the front of the buffer and gives its length; refused, it moves nothing.
 pub fn write_result(session: &Session, out: &mut [u8]) -> Result<usize, Refusal>
     ensures answer { λ r. ⌜ r ≡ resultAnswer (now (session .entry)) (length (now (out .entry))) ⌝ }
+    ensures totals { λ _. ⌜ FitsTotals (resultOf (now (session .entry))) ⌝ }
     ensures buffer { λ r. ⌜ Cases r (λ n. now (out .exit) ≡ resultBytes (now (session .entry)) ++ drop n (now (out .entry))) (λ _. now (out .exit) ≡ now (out .entry)) ⌝ }
 {
     if !session.is_cleared() {

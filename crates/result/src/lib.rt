@@ -2,5 +2,5 @@
 pub mod file;
 pub mod member_line;
 mod records;
-mod withdrawn;
 mod sums;
+mod withdrawn;

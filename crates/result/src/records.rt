@@ -14,15 +14,33 @@ use terms::currency::Currency;
 use terms::cycle::Cycle;
 
 const HEADER_TAG: u8 = 4;
+
 const MEMBER_TAG: u8 = 2;
+
 const WITHDRAWN_TAG: u8 = 3;
+
 const TOTALS_TAG: u8 = 10;
 
 // The lengths of the values.
 const HEADER_WIDTH: u16 = 6;
+
 const MEMBER_WIDTH: u16 = 18;
+
 const WITHDRAWN_WIDTH: u16 = 15;
+
 const TOTALS_WIDTH: u16 = 12;
+
+// The tag and the length of the value, in front of each value.
+const HEAD_BYTES: usize = 3;
+
+// The lengths of whole records.
+pub(crate) const HEADER_BYTES: usize = HEAD_BYTES + HEADER_WIDTH as usize;
+
+pub(crate) const MEMBER_BYTES: usize = HEAD_BYTES + MEMBER_WIDTH as usize;
+
+pub(crate) const WITHDRAWN_BYTES: usize = HEAD_BYTES + WITHDRAWN_WIDTH as usize;
+
+pub(crate) const TOTALS_BYTES: usize = HEAD_BYTES + TOTALS_WIDTH as usize;
 
 // The cause that every withdrawn record carries.
 const WITHDRAWN_CAUSE: u8 = 12;
@@ -87,7 +105,13 @@ pub(crate) fn write_withdrawn(out: &mut [u8], at: usize, entry: Entry) -> usize
 }
 
 // Writes the totals: 15 bytes.
-pub(crate) fn write_totals(out: &mut [u8], at: usize, members: u16, withdrawn: u16, sum: u64) -> usize
+pub(crate) fn write_totals(
+    out: &mut [u8],
+    at: usize,
+    members: u16,
+    withdrawn: u16,
+    sum: u64,
+) -> usize
     requires { ⌜ at + 15 ≤ length (now out) ⌝ }
     ensures { λ r. ⌜ Wrote (now (out .entry)) at (encTotals members withdrawn sum) (now (out .exit)) r ⌝ }
 {

@@ -31,5 +31,5 @@ returns c =
     let s = c .args .session .now in
     let e = c .docket-docket .ensures in
     all-written s (c .currency .result) (c .cycle .result) (c .date .result) (c .args .members) (c .args .withdrawn) (c .positive-sum-sum .result)
-        (c .currency .ensures ∙ ap (λ d. dayOf d .currency) e) (c .cycle .ensures ∙ ap (λ d. dayOf d .cycle) e) (c .date .ensures ∙ ap (λ d. dayOf d .date) e) (c .pre .members) (c .pre .withdrawn) (c .positive-sum-sum .ensures .value)
-        (c .write-header-header-end .ensures) (c .write-members-members-end .ensures) (c .write-all-withdrawn-withdrawn-end .ensures) (c .write-totals .ensures)
+    (c .currency .ensures ∙ ap (λ d. dayOf d .currency) e) (c .cycle .ensures ∙ ap (λ d. dayOf d .cycle) e) (c .date .ensures ∙ ap (λ d. dayOf d .date) e) (c .pre .members) (c .pre .withdrawn) (c .positive-sum-sum .ensures .value)
+    (c .write-header-header-end .ensures) (c .write-members-members-end .ensures) (c .write-all-withdrawn-withdrawn-end .ensures) (c .write-totals .ensures)
