@@ -2,3 +2,4 @@ pub mod Gathering
 pub mod Written
 pub mod Numbers
 pub mod Answered
+pub mod Agreeing

@@ -2,3 +2,4 @@ pub mod Gathered
 pub mod Layout
 pub mod Value
 pub mod Answers
+pub mod Agreement

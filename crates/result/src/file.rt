@@ -1,6 +1,7 @@
 // Writing the result file of a session into the caller's buffer.
-ghost use Prim.Native.Nat.{_+_, _*_, _≤_};
+ghost use Prim.Native.Nat.{_+_, _*_, _<_, _≤_};
 ghost use Rattle.pen.specs.Buffer.{Wrote, fronted};
+ghost use Rattle.result.specs.Agreement.{Agrees};
 ghost use Rattle.result.specs.Answers.{resultAnswer, resultBytes};
 ghost use Rattle.result.specs.Gathered.{eachOf};
 ghost use Rattle.result.specs.Layout.{FitsTotals, encMember, encWithdrawn};
@@ -36,7 +37,7 @@ fn members_in(session: &Session) -> usize
 
 // The member at a place on the roll.
 fn line_at(session: &Session, place: usize) -> MemberLine
-    requires { ⌜ place + 1 ≤ length (rollOf (now session .docket)) ⌝ }
+    requires { ⌜ place < length (rollOf (now session .docket)) ⌝ }
     ensures { λ r. ⌜ r ≡ lineAt (now (session .entry)) place ⌝ }
 {
     MemberLine {
@@ -94,6 +95,7 @@ fn write_records(session: &Session, out: &mut [u8], members: usize, withdrawn: u
 pub fn write_result(session: &Session, out: &mut [u8]) -> Result<usize, Refusal>
     ensures answer { λ r. ⌜ r ≡ resultAnswer (now (session .entry)) (length (now (out .entry))) ⌝ }
     ensures totals { λ _. ⌜ FitsTotals (resultOf (now (session .entry))) ⌝ }
+    ensures agrees { λ _. ⌜ (now (session .entry) .cleared ≡ true → Agrees (now (session .entry))) ⌝ }
     ensures buffer { λ r. ⌜ Cases r (λ n. now (out .exit) ≡ resultBytes (now (session .entry)) ++ drop n (now (out .entry))) (λ _. now (out .exit) ≡ now (out .entry)) ⌝ }
 {
     if !session.is_cleared() {

@@ -5,12 +5,13 @@ use native.Mathlib.Omega.{arith}
 use lib.ListN.{drop, length}
 use Rattle.result.specs.Answers.{resultBytes}
 use Rattle.result.proofs.Answered.{answers-length, answers-not-cleared, answers-short, result-long, totals-fit}
+use Rattle.result.proofs.Agreeing.{result-agrees}
 use Rattle.result.proofs.file.write_result.Needs as need
 
 pub returns-then-not-is-cleared : need.returns-then-not-is-cleared
 returns-then-not-is-cleared c =
     let s = c .args .session .now in
-    record { answer = answers-not-cleared s _ (sym (c .if-not-is-cleared .ensures tt)); totals = totals-fit s; buffer = refl }
+    record { answer = answers-not-cleared s _ (sym (c .if-not-is-cleared .ensures tt)); totals = totals-fit s; agrees = result-agrees s; buffer = refl }
 
 pub returns-then-out-len : need.returns-then-out-len
 returns-then-out-len c =
@@ -18,6 +19,7 @@ returns-then-out-len c =
     record {
       answer = answers-short s _ (sym (c .if-not-is-cleared .ensures tt)) (omega (arith, result-long s, c .members-in-members .ensures .value, c .withdrawn-in-withdrawn .ensures .value, c .if-out-len .taken));
       totals = totals-fit s;
+      agrees = result-agrees s;
       buffer = refl;
     }
 
@@ -28,5 +30,6 @@ returns c =
     record {
       answer = answers-length s _ _ (sym (c .if-not-is-cleared .ensures tt)) (omega (arith, l, c .if-out-len .left)) l;
       totals = totals-fit s;
+      agrees = result-agrees s;
       buffer = c .write-records .ensures ∙ ap (λ k. resultBytes s ++ drop k (c .args .out .now)) (sym l);
     }
