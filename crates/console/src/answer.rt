@@ -21,8 +21,10 @@ pub enum Answer {
     Amount(u64),
     // What a check of the writer says.
     Checked(Option<Refusal>),
-    // A file of the writer: its length, and the whole buffer.
+    // A file or a result: its length, and the whole buffer.
     Written(usize, Vec<u8>),
+    // No result, and the whole buffer.
+    Unwritten(Refusal, Vec<u8>),
 }
 
 fn show_code<W: fmt::Write>(f: &mut fmt::Formatter<W>, refusal: Option<Refusal>) -> fmt::Result {
@@ -73,6 +75,11 @@ pub impl fmt::Display for Answer as AnswerDisplay {
             Answer::Written(length, buffer) => {
                 let bytes = Hexadecimal(buffer);
                 write!(f, "length {length} {bytes}")
+            }
+            Answer::Unwritten(refusal, buffer) => {
+                let code = refusal.code();
+                let bytes = Hexadecimal(buffer);
+                write!(f, "refused {code} {bytes}")
             }
         }
     }

@@ -66,6 +66,7 @@ impl Console {
             "bilateral" => self.bilateral(rest),
             "cover" => self.cover(rest),
             "mark" => self.mark(rest),
+            "result" => self.result(rt.alloc(), rest),
             "wopen" => self.open_file(rt.alloc(), rest),
             "wbatch" => self.open_batch(rt.alloc(), rest),
             "wput6" => self.put_presentation(rt.alloc(), rest),

@@ -18,6 +18,7 @@ use clearing::place::Place;
 use desk::calls;
 use desk::calls::Call;
 use desk::desk::act;
+use result::file::write_result;
 use rules::cover::CoverSource;
 use rules::instrument::Instrument;
 use rules::instruments::AnyInstrument;
@@ -165,5 +166,16 @@ impl Console {
             return Err(Misread::Usage("mark NUMBER"));
         };
         Ok(Answer::from(self.session.mark(number::<usize>(session_number)?)))
+    }
+
+    pub(crate) fn result(&self, heap: Global, words: &[&str]) -> Result<Answer, Misread> {
+        let [size] = words else {
+            return Err(Misread::Usage("result SIZE"));
+        };
+        let mut bytes = buffer(heap, number::<usize>(size)?)?;
+        Ok(match write_result(&self.session, &mut bytes) {
+            Ok(length) => Answer::Written(length, bytes),
+            Err(refusal) => Answer::Unwritten(refusal, bytes),
+        })
     }
 }

@@ -10,7 +10,7 @@ use lib.Seq.{take-all, drop-drop, length-take-le, drop-append-add, take-append-s
 use Rattle.std.proofs.shelf.Lists.{drop-all}
 use borrow.Rule.Slice.PartMut.{putMid}
 use Rattle.wire.specs.Bytes.{inBytes}
-use Rattle.writer.specs.Buffer.{written, Wrote, fronted}
+use Rattle.pen.specs.Buffer.{written, Wrote, fronted}
 
 lent : (xs ys zs : List ℕ) (a : ℕ) → a + length ys ≤ length xs → zs ≡ fronted ys (take (length xs - a) (drop a xs)) → putMid a (length xs - a) xs zs ≡ written xs a ys
 unfolding written

@@ -1,21 +1,21 @@
 // A pen over a part of a buffer: it writes numbers one behind another, highest byte first.
 ghost use Prim.Native.Nat.{_+_, _≤_};
 ghost use Rattle.wire.specs.Bytes.{inBytes};
-ghost use Rattle.writer.specs.Buffer.{Wrote};
+ghost use Rattle.pen.specs.Buffer.{Wrote};
 ghost use denote.Ref.{name, now};
 ghost use lib.ListN.{length};
 ghost use mathlib.Core.List.{[], _∷_};
 ghost use mathlib.Core.Path.{_≡_};
 
 #[derive(Drop)]
-pub(crate) struct Pen<'b> {
-    pub(crate) out: &'b mut [u8],
-    pub(crate) at: usize,
+pub struct Pen<'b> {
+    pub out: &'b mut [u8],
+    pub at: usize,
 }
 
 impl<'b> Pen<'b> {
     // Writes a number of one byte.
-    pub(crate) fn u8(&mut self, x: u8)
+    pub fn u8(&mut self, x: u8)
         requires { ⌜ now self .at + 1 ≤ length (now (now self .out)) ⌝ }
         ensures name { λ _. ⌜ name (now (self .exit) .out) ≡ name (now (self .entry) .out) ⌝ }
         ensures wrote { λ _. ⌜ Wrote (now (now (self .entry) .out)) (now (self .entry) .at) (x ∷ []) (now (now (self .exit) .out)) (now (self .exit) .at) ⌝ }
@@ -26,7 +26,7 @@ impl<'b> Pen<'b> {
     }
 
     // Writes a number of two bytes.
-    pub(crate) fn u16(&mut self, x: u16)
+    pub fn u16(&mut self, x: u16)
         requires { ⌜ now self .at + 2 ≤ length (now (now self .out)) ⌝ }
         ensures name { λ _. ⌜ name (now (self .exit) .out) ≡ name (now (self .entry) .out) ⌝ }
         ensures wrote { λ _. ⌜ Wrote (now (now (self .entry) .out)) (now (self .entry) .at) (inBytes 2 x) (now (now (self .exit) .out)) (now (self .exit) .at) ⌝ }
@@ -36,7 +36,7 @@ impl<'b> Pen<'b> {
     }
 
     // Writes a number of four bytes.
-    pub(crate) fn u32(&mut self, x: u32)
+    pub fn u32(&mut self, x: u32)
         requires { ⌜ now self .at + 4 ≤ length (now (now self .out)) ⌝ }
         ensures name { λ _. ⌜ name (now (self .exit) .out) ≡ name (now (self .entry) .out) ⌝ }
         ensures wrote { λ _. ⌜ Wrote (now (now (self .entry) .out)) (now (self .entry) .at) (inBytes 4 x) (now (now (self .exit) .out)) (now (self .exit) .at) ⌝ }
@@ -46,7 +46,7 @@ impl<'b> Pen<'b> {
     }
 
     // Writes a number of eight bytes.
-    pub(crate) fn u64(&mut self, x: u64)
+    pub fn u64(&mut self, x: u64)
         requires { ⌜ now self .at + 8 ≤ length (now (now self .out)) ⌝ }
         ensures name { λ _. ⌜ name (now (self .exit) .out) ≡ name (now (self .entry) .out) ⌝ }
         ensures wrote { λ _. ⌜ Wrote (now (now (self .entry) .out)) (now (self .entry) .at) (inBytes 8 x) (now (now (self .exit) .out)) (now (self .exit) .at) ⌝ }

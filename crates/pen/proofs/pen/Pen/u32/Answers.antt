@@ -1,6 +1,6 @@
 use mathlib.Core.Path.{_∙_}
-use Rattle.writer.proofs.Lent.{wrote-more, wrote-halves-4}
-use Rattle.writer.proofs.pen.Pen.u32.Needs as need
+use Rattle.pen.proofs.Lent.{wrote-more, wrote-halves-4}
+use Rattle.pen.proofs.pen.Pen.u32.Needs as need
 
 pub returns : need.returns
 returns c =

@@ -1,7 +1,7 @@
 use mathlib.Core.Path.{refl}
 use native.Mathlib.Omega.{arith}
-use Rattle.writer.proofs.Lent.{wrote-byte}
-use Rattle.writer.proofs.pen.Pen.u8.Needs as need
+use Rattle.pen.proofs.Lent.{wrote-byte}
+use Rattle.pen.proofs.pen.Pen.u8.Needs as need
 
 pub returns : need.returns
 returns c =
