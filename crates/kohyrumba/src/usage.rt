@@ -9,9 +9,27 @@ const USAGE: &str = "usage: kohyrumba COMMAND
       judge member files: one line for each, accepted or refused with code, layer, place and rule
       --rows    the records of each file below its line, up to the first that cannot be read
       --strict  end with status 1 if a file is refused
+  session PLAN
+      carry out a plan: a line for each of docket, open, report, pledge, file and clear;
+      show the verdict on each file, and what each clearing withdraws and leaves
+  demo
+      the same on a small session that is built in
+  write LIST OUT
+      write a member file from a list of its records: file, batch, present and return lines
+  console [SCRIPT]
+      answer commands, one to a line, from the standard input or from a script, each in one line
+  rules
+      the limits of each instrument, asked from the instrument itself
+  cases
+      the cases settled by hand, as the engine settles them
+  bench clear
+      the time that a clearing of a full table takes
+  run SCRIPT
+      carry out command lines of this program, one to a line
   --help        this text
   --version     the program's version
 
+In plans and lists a line that begins with # is a comment, and an amount is in hundredths, or has a point and two decimals.
 A file that cannot be read, or a command that cannot be understood, ends with status 1.";
 
 pub(crate) fn show_usage(rt: &LibcRuntime) -> Result<(), AnyError> {
@@ -24,9 +42,11 @@ pub(crate) fn show_version(rt: &LibcRuntime) -> Result<(), AnyError> {
     Ok(())
 }
 
-// One line that says what is wrong, the usage below it, and an error.
+// One line that says what is wrong, and an error.
 pub(crate) fn bad_usage(rt: &LibcRuntime, problem: &str) -> Result<(), AnyError> {
-    eprintln!(rt, "kohyrumba: {problem}")?;
-    eprintln!(rt, "{USAGE}")?;
+    eprintln!(
+        rt,
+        "kohyrumba: {problem}; kohyrumba --help names the commands"
+    )?;
     Err("bad usage".into())
 }

@@ -8,6 +8,7 @@ pub mod admit;
 pub mod intake;
 pub mod mark;
 pub mod opening;
+pub mod places;
 pub mod questions;
 pub mod rows;
 pub mod settle;

@@ -18,9 +18,9 @@ use Rattle.wire.specs.declared.row.Row.{Row}
 use Rattle.memberfile.specs.Judge.{judge}
 use Rattle.memberfile.specs.Layout.{BatchValue, FileValue, FitsRow, FitsTotals, Formed, allRows, encBatchEnd, encBatchHead, encBatches, encClosing, encFileEnd, encFileHead, encRecord, encRow, encRows, encode}
 use Rattle.exactness.proofs.Complete.{accepts}
-use Rattle.writer.proofs.Lent.{wrote-as, wrote-front, wrote-more}
+use Rattle.pen.proofs.Lent.{wrote-as, wrote-front, wrote-more}
 use Rattle.writer.proofs.Longer.{row-bytes, rows-more, batches-more, all-rows-more, tally-more, last-more, formed-rows-more, formed-batches-more}
-use Rattle.writer.specs.Buffer.{written, Wrote, fronted}
+use Rattle.pen.specs.Buffer.{written, Wrote, fronted}
 use Rattle.writer.specs.Drafts.{FileDraft, refused, drafted, BatchDraft, turned, drafting, batchCheck, batchCheckAt, begun, begunWith, blankBatch, bound, closed, endDue, extended, extendedBy, firstOf, putCheck, rowCheckAt, started, startedBy, withBatch, withRow}
 use Rattle.writer.specs.Records.{encBatchHeadOf}
 use Rattle.writer.specs.Stands.{Done, Stands, StandsIn, Upto, Within}

@@ -1,4 +1,3 @@
-pub mod Lent
 pub mod Tags
 pub mod Lawful
 pub mod Longer

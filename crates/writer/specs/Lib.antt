@@ -1,4 +1,3 @@
-pub mod Buffer
 pub mod Records
 pub mod Steps
 pub mod Drafts

@@ -10,7 +10,7 @@ use Rattle.terms.specs.declared.refusal.Refusal.{Refusal}
 use Rattle.wire.specs.Rows.{noTotals, tally}
 use Rattle.memberfile.specs.Judge.{judge}
 use Rattle.memberfile.specs.Layout.{BatchValue, FileValue, Formed, FormedBatches, FormedRows, LawfulHeader, allRows}
-use Rattle.writer.specs.Buffer.{fronted}
+use Rattle.pen.specs.Buffer.{fronted}
 use Rattle.writer.specs.Drafts.{FileDraft, refused, drafted, BatchDraft, turned, drafting, begun, begunWith, bound, lastFrom, finishedBytes}
 use Rattle.writer.specs.declared.progress.Progress.{Progress}
 

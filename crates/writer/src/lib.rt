@@ -1,7 +1,6 @@
 // The member-file writer: a file goes into a borrowed buffer record by record, through states that only allow the right order.
 pub mod batch_rows;
 pub mod example;
-mod pen;
 mod progress;
 mod records;
 pub mod states;

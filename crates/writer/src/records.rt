@@ -2,13 +2,13 @@
 ghost use Prim.Native.Nat.{_+_, _≤_};
 ghost use Rattle.memberfile.specs.Layout.{FitsRow, encClosing, encFileHead, encPresentation, encRecord, encReturn, encRow};
 ghost use Rattle.wire.specs.declared.record.Tag.the-variants.{Presentation as PresentationTag, Return as ReturnTag};
-ghost use Rattle.writer.specs.Buffer.{Wrote, fronted};
+ghost use Rattle.pen.specs.Buffer.{Wrote, fronted};
 ghost use Rattle.writer.specs.Records.{encBatchHeadOf, headBytes};
 ghost use denote.Ref.{name, now};
 ghost use lib.ListN.{length};
 ghost use mathlib.Core.Path.{_≡_};
-use crate::pen::Pen;
 use memberfile::header::Header;
+use pen::pen::Pen;
 use terms::file_kind::FileKind;
 use wire::record::Tag;
 use wire::row::Row;

@@ -1,7 +1,7 @@
 use mathlib.Core.Path.{sym, ap, _∙_}
 use mathlib.Core.List.{[], _∷_}
 use borrow.Author.Needs.{needs}
-use Rattle.writer.proofs.Lent.{wrote-more, wrote-front, wrote-as}
+use Rattle.pen.proofs.Lent.{wrote-more, wrote-front, wrote-as}
 use Rattle.writer.proofs.records.write_file_head.Needs as need
 
 pub returns : need.returns

@@ -1,6 +1,6 @@
 use mathlib.Core.Path.{sym, _∙_}
 use borrow.Author.Needs.{needs}
-use Rattle.writer.proofs.Lent.{wrote-more, wrote-front}
+use Rattle.pen.proofs.Lent.{wrote-more, wrote-front}
 use Rattle.writer.proofs.records.write_return.Needs as need
 
 pub returns : need.returns

@@ -2,7 +2,7 @@ use mathlib.Core.Path.{sym, ap, _∙_}
 use mathlib.Core.List.{[], _∷_}
 use native.Mathlib.Omega.{arith}
 use Rattle.wire.specs.Bytes.{inBytes}
-use Rattle.writer.proofs.Lent.{wrote-as, wrote-more}
+use Rattle.pen.proofs.Lent.{wrote-as, wrote-more}
 use Rattle.writer.proofs.Tags.{width-bytes, width-small}
 use Rattle.writer.proofs.records.write_tag.Needs as need
 

@@ -2,7 +2,7 @@ use mathlib.Core.Path.{sym}
 use Rattle.wire.specs.declared.record.Tag.the-variants.{BatchEnd}
 use Rattle.memberfile.specs.Layout.{encClosing, encRecord}
 use Rattle.writer.proofs.Growth.{batch-closed, bound-buffer, due-space, left-open}
-use Rattle.writer.proofs.Lent.{wrote-part}
+use Rattle.pen.proofs.Lent.{wrote-part}
 use Rattle.writer.proofs.Longer.{few-fit}
 use Rattle.writer.proofs.steps.end_batch.Needs as need
 

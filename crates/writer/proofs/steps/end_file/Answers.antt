@@ -3,7 +3,7 @@ use native.Mathlib.Omega.{arith}
 use Rattle.wire.specs.declared.record.Tag.the-variants.{FileEnd}
 use Rattle.memberfile.specs.Layout.{encClosing, encRecord}
 use Rattle.writer.proofs.Growth.{bound-buffer, due-space, file-finished, left-bare}
-use Rattle.writer.proofs.Lent.{wrote-part}
+use Rattle.pen.proofs.Lent.{wrote-part}
 use Rattle.writer.proofs.Longer.{few-fit}
 use Rattle.writer.proofs.steps.end_file.Needs as need
 

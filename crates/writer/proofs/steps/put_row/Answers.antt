@@ -3,7 +3,7 @@ use native.Mathlib.Omega.{arith}
 use Rattle.memberfile.specs.Layout.{encRow}
 use Rattle.writer.specs.Drafts.{bound}
 use Rattle.writer.proofs.Growth.{bound-buffer, row-free, row-put, same-put}
-use Rattle.writer.proofs.Lent.{wrote-part}
+use Rattle.pen.proofs.Lent.{wrote-part}
 use Rattle.writer.proofs.Longer.{row-bytes}
 use lib.ListN.{length}
 use Rattle.writer.proofs.steps.put_row.Needs as need

@@ -4,7 +4,7 @@ use lib.ListN.{length}
 use Rattle.writer.specs.Drafts.{bound}
 use Rattle.writer.specs.Records.{encBatchHeadOf}
 use Rattle.writer.proofs.Growth.{batch-opened, bound-buffer, number-free, turned-away}
-use Rattle.writer.proofs.Lent.{wrote-part}
+use Rattle.pen.proofs.Lent.{wrote-part}
 use Rattle.writer.proofs.steps.start_batch.Needs as need
 
 pub returns-in-Err : need.returns-in-Err

@@ -1,0 +1,2 @@
+// Writing numbers into a borrowed buffer, one behind another.
+pub mod pen;

@@ -1,0 +1,5 @@
+pub mod Gathering
+pub mod Written
+pub mod Numbers
+pub mod Answered
+pub mod Agreeing

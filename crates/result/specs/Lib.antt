@@ -1,0 +1,5 @@
+pub mod Gathered
+pub mod Layout
+pub mod Value
+pub mod Answers
+pub mod Agreement

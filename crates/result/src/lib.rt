@@ -1,0 +1,6 @@
+// The result file of a cleared session.
+pub mod file;
+pub mod member_line;
+mod records;
+mod sums;
+mod withdrawn;

@@ -1,9 +1,0 @@
-use mathlib.Core.Path.{refl}
-use native.Mathlib.Omega.{arith}
-use Rattle.writer.proofs.Lent.{wrote-byte}
-use Rattle.writer.proofs.pen.Pen.u8.Needs as need
-
-pub returns : need.returns
-returns c =
-    let s = c .args .self .now in
-    record { name = refl; wrote = wrote-byte (s .out .now) (s .at) (c .args .x) (omega arith) }
