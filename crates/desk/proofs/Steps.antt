@@ -19,7 +19,7 @@ use Rattle.session.specs.Ledger.{Ledger, ledgerOf}
 use Rattle.session.specs.Settled.{Settled, withdrawnIn}
 use Rattle.session.specs.declared.session.Session.{Session}
 use Rattle.desk.specs.Books.{Book, afterSent, clears, coversBy, fileAnswer, sends}
-use Rattle.desk.specs.Stands.{Does, Keeps}
+use Rattle.desk.specs.Stands.{Does, Keeps, Unmoved}
 use Rattle.desk.specs.declared.calls.Answer.{Answer}
 use Rattle.desk.specs.declared.calls.Answer.the-variants.{Withdrawn}
 
@@ -65,3 +65,11 @@ module _ (m : Meaning) (bytes : List ℕ) (room : ℕ) (s t : Session) (a : Answ
 -- the same, of an outcome buffer as long as the room
 pub taken-does : (m : Meaning) (bytes : List ℕ) (k room : ℕ) (s t : Session) (a : Answer) → k ≡ room → a ≡ fileAnswer (answered (ledgerOf s) m (verdict (ledgerOf s) m bytes k)) → ledgerOf t ≡ ledgerAfter (ledgerOf s) m (verdict (ledgerOf s) m bytes k) → Stood (verdict (ledgerOf s) m bytes k) s t → Does (sends m bytes room) s t a
 taken-does m bytes k room s t a e answer left stood = subst (λ (n : ℕ). Does (sends m bytes n) s t a) e (taken-by m bytes k s t a answer left stood)
+
+unmoved-by : (m : Meaning) (l : Ledger) (s t : Session) (v : Result FileValue Fault) (a : Answer) → fileAnswer (answered l m v) ≡ a → Stood v s t → Unmoved a s t
+unmoved-by m l s t (Ok f) a e stood = subst (λ (x : Answer). Unmoved x s t) e tt
+unmoved-by m l s t (Err x) a e stood = subst (λ (y : Answer). Unmoved y s t) e stood
+
+-- a refused file leaves the session as it was
+pub unmoved : (m : Meaning) (bytes : List ℕ) (k : ℕ) (s t : Session) (a : Answer) → a ≡ fileAnswer (answered (ledgerOf s) m (verdict (ledgerOf s) m bytes k)) → Stood (verdict (ledgerOf s) m bytes k) s t → Unmoved a s t
+unmoved m bytes k s t a e stood = unmoved-by m (ledgerOf s) s t (verdict (ledgerOf s) m bytes k) a (sym e) stood

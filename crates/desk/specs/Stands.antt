@@ -9,6 +9,7 @@ use Rattle.session.specs.Settled.{Settled}
 use Rattle.session.specs.declared.session.Session.{Session}
 use Rattle.desk.specs.Books.{Book, Meant, Says, State, after, run, settled, unsettled}
 use Rattle.desk.specs.declared.calls.Answer.{Answer}
+use Rattle.desk.specs.declared.calls.Answer.the-variants.{Taken, Refused, Withdrawn}
 
 -- the session bears how the book says that it stands
 abbrev pub Bears : State → Session → Type 0
@@ -24,6 +25,12 @@ pub record Keeps (b : Book) (s : Session) : Type 0 where
 pub record Does (m : Meant) (s t : Session) (a : Answer) : Type 0 where
   pub keeps : (b : Book) → Keeps b s → Keeps (after b m) t
   pub says : (b : Book) → Keeps b s → Says b m a
+
+-- a refused call leaves the session as it was, all of it
+abbrev pub Unmoved : Answer → Session → Session → Type 0
+Unmoved (Taken t) old new = Unit {0}
+Unmoved (Refused x) old new = new ≡ old
+Unmoved (Withdrawn n) old new = Unit {0}
 
 -- the session is what the calls h leave of one newly opened for that day with that capacity
 abbrev pub Stands : Day → ℕ → List Meant → Session → Type 0

@@ -3,7 +3,7 @@ ghost use Prim.Native.Nat.{ℕ, min};
 ghost use Rattle.desk.specs.Books.{Meant, Told, clears, fresh, sends};
 ghost use Rattle.desk.specs.Calls.{leftBy, leftIn, meaning};
 ghost use Rattle.desk.specs.Promises.{Promise};
-ghost use Rattle.desk.specs.Stands.{Does, Stands};
+ghost use Rattle.desk.specs.Stands.{Does, Stands, Unmoved};
 ghost use Rattle.session.specs.Ledger.{ledgerOf};
 ghost use Rattle.std.specs.Of.Vec.{vec-len};
 ghost use Rattle.terms.specs.Dockets.{Day, dayOf};
@@ -29,6 +29,7 @@ fn take_in<I: Instrument>(
 ) -> Answer
     ensures does { λ r. ⌜ Does (sends (I·Instrument .meaning (now (instrument .entry))) (now (file .entry)) (min room (length (now (out .entry))))) (now (s .entry)) (now (s .exit)) r ⌝ }
     ensures out { λ _. ⌜ now (out .exit) ≡ leftIn (ledgerOf (now (s .entry))) (sends (I·Instrument .meaning (now (instrument .entry))) (now (file .entry)) (min room (length (now (out .entry))))) (now (out .entry)) ⌝ }
+    ensures unmoved { λ r. ⌜ Unmoved r (now (s .entry)) (now (s .exit)) ⌝ }
 {
     let n = room.min(out.len());
     match s.intake(instrument, file, &mut out[0..n]) {
@@ -39,7 +40,8 @@ fn take_in<I: Instrument>(
 
 // Clears the session.
 fn settle<R: Ranking, C: CoverSource>(s: &mut Session, rule: &R, source: &C) -> Answer
-    ensures { λ r. ⌜ Does (clears (R·Ranking .ahead (now (rule .entry))) (C·CoverSource .covers (now (source .entry)))) (now (s .entry)) (now (s .exit)) r ⌝ }
+    ensures does { λ r. ⌜ Does (clears (R·Ranking .ahead (now (rule .entry))) (C·CoverSource .covers (now (source .entry)))) (now (s .entry)) (now (s .exit)) r ⌝ }
+    ensures unmoved { λ r. ⌜ Unmoved r (now (s .entry)) (now (s .exit)) ⌝ }
 {
     Answer::Withdrawn(s.clear(rule, source))
 }
@@ -52,6 +54,8 @@ pub fn act<I: Instrument, R: Ranking, C: CoverSource>(
 ) -> Answer
     ensures does { λ r. ⌜ Does (meaning (I·Instrument .meaning) (R·Ranking .ahead) (C·CoverSource .covers) (length (now (out .entry))) (now (call .entry))) (now (s .entry)) (now (s .exit)) r ⌝ }
     ensures out { λ _. ⌜ now (out .exit) ≡ leftIn (ledgerOf (now (s .entry))) (meaning (I·Instrument .meaning) (R·Ranking .ahead) (C·CoverSource .covers) (length (now (out .entry))) (now (call .entry))) (now (out .entry)) ⌝ }
+    ensures unmoved { λ r. ⌜ Unmoved r (now (s .entry)) (now (s .exit)) ⌝ }
+    ensures stands { λ _. ⌜ ((day : Day) (n : ℕ) (h : List Meant) → Stands day n h (now (s .entry)) → Stands day n (h ++ (meaning (I·Instrument .meaning) (R·Ranking .ahead) (C·CoverSource .covers) (length (now (out .entry))) (now (call .entry)) ∷ [])) (now (s .exit))) ⌝ }
     ensures promise { λ _. ⌜ ((day : Day) (n : ℕ) (h : List Meant) → Stands day n h (now (s .entry)) → Promise day n (h ++ (meaning (I·Instrument .meaning) (R·Ranking .ahead) (C·CoverSource .covers) (length (now (out .entry))) (now (call .entry)) ∷ [])) (now (s .exit))) ⌝ }
 {
     match call {

@@ -7,7 +7,7 @@ use Rattle.std.proofs.shelf.Lists.{length-take-le}
 use Rattle.session.specs.Files.{verdict, written}
 use Rattle.session.specs.Ledger.{ledgerOf}
 use Rattle.desk.specs.Books.{fileAnswer}
-use Rattle.desk.proofs.Steps.{taken-does}
+use Rattle.desk.proofs.Steps.{taken-does, unmoved}
 use Rattle.desk.proofs.desk.take_in.Needs as need
 
 part-long : (k room : ℕ) (out : List ℕ) → k ≡ min room (length out) → length (take (k - 0) out) ≡ min room (length out)
@@ -28,6 +28,7 @@ returns-in-Ok g c =
     record {
       does = taken-does m bs _ _ (c .args .s .now) (c .intake .last .self) _ long (ap fileAnswer (did .answer)) (did .ledger) (did .stood);
       out = (λ i. did .out i ++ drop (c .min-n .result - 0) out) ∙ (λ i. written l m (verdict l m bs (long i)) (take (num i) out) ++ drop (num i) out);
+      unmoved = unmoved m bs _ (c .args .s .now) (c .intake .last .self) _ (ap fileAnswer (did .answer)) (did .stood);
     }
 
 pub returns-in-Err : need.returns-in-Err
@@ -42,4 +43,5 @@ returns-in-Err g c =
     record {
       does = taken-does m bs _ _ (c .args .s .now) (c .intake .last .self) _ long (ap fileAnswer (did .answer)) (did .ledger) (did .stood);
       out = (λ i. did .out i ++ drop (c .min-n .result - 0) out) ∙ (λ i. written l m (verdict l m bs (long i)) (take (num i) out) ++ drop (num i) out);
+      unmoved = unmoved m bs _ (c .args .s .now) (c .intake .last .self) _ (ap fileAnswer (did .answer)) (did .stood);
     }
