@@ -40,16 +40,19 @@ positiveSum (m ∷ ms) = positive (m .position) + positiveSum ms
 abbrev pub encTagged : ℕ → List ℕ → List ℕ
 encTagged tag value = tag ∷ (inBytes 2 (length value) ++ value)
 
+-- currency, cycle and date
 abbrev pub encHeader : Currency → Cycle → ℕ → List ℕ
 encHeader currency cycle date = encTagged 4 (currencyNumber currency ∷ cycleNumber cycle ∷ inBytes 4 date)
 
+-- a member: code, position and cover
 abbrev pub encMember : MemberLine → List ℕ
 encMember m = encTagged 2 (inBytes 2 (m .code) ++ (inBytes 8 (twos (m .position)) ++ inBytes 8 (m .cover)))
 
--- the cause of every withdrawn record is 12
+-- a withdrawn record: origin and other as sent, reference, amount, commission, and cause 12
 abbrev pub encWithdrawn : Entry → List ℕ
 encWithdrawn e = encTagged 3 (inBytes 2 (e .origin) ++ (inBytes 2 (e .other) ++ (inBytes 4 (e .reference) ++ (inBytes 4 (e .amount) ++ (inBytes 2 (e .commission) ++ (12 ∷ []))))))
 
+-- how many members and withdrawn records, and the sum of the positive positions
 abbrev pub encTotals : ℕ → ℕ → ℕ → List ℕ
 encTotals members withdrawn sum = encTagged 10 (inBytes 2 members ++ (inBytes 2 withdrawn ++ inBytes 8 sum))
 

@@ -3,3 +3,4 @@ pub mod Layout
 pub mod Value
 pub mod Answers
 pub mod Agreement
+pub mod Example

@@ -30,6 +30,7 @@ lineAt s place = lineOf s (getD (rollOf (s .docket)) place 0) place
 abbrev pub linesUpTo : Session → ℕ → List MemberLine
 linesUpTo s n = gathered (λ i. lineAt s i ∷ []) n
 
+-- whether a mark says withdrawn
 abbrev pub isWithdrawn : Mark → Bool
 isWithdrawn Unmarked = false
 isWithdrawn Kept = false

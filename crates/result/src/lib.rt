@@ -1,4 +1,5 @@
 // The result file of a cleared session.
+pub mod example;
 pub mod file;
 pub mod member_line;
 mod records;

@@ -13,6 +13,7 @@ use pen::pen::Pen;
 use terms::currency::Currency;
 use terms::cycle::Cycle;
 
+// The tags of the records.
 const HEADER_TAG: u8 = 4;
 
 const MEMBER_TAG: u8 = 2;

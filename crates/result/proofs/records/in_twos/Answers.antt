@@ -1,4 +1,4 @@
-use mathlib.Core.Path.{_∙_}
+use native.Mathlib.Omega.{arith}
 use Rattle.std.proofs.shelf.Signed.{toZ-ofZ}
 use Rattle.result.proofs.Numbers.{twos-is}
 use Rattle.result.proofs.records.in_twos.Needs as need
@@ -6,5 +6,4 @@ use Rattle.result.proofs.records.in_twos.Needs as need
 pub returns : need.returns
 returns c =
     let f = c .fits .position in
-    let e = simp toZ-ofZ at (c .cast-unsigned .ensures) in
-    e ∙ twos-is (c .args .position) f
+    grind (arith, toZ-ofZ, twos-is)
