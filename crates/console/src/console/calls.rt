@@ -173,9 +173,11 @@ impl Console {
             return Err(Misread::Usage("result SIZE"));
         };
         let mut bytes = buffer(heap, number::<usize>(size)?)?;
-        Ok(match write_result(&self.session, &mut bytes) {
-            Ok(length) => Answer::Written(length, bytes),
-            Err(refusal) => Answer::Unwritten(refusal, bytes),
-        })
+        Ok(
+            match write_result(&self.session, &mut bytes) {
+                Ok(length) => Answer::Written(length, bytes),
+                Err(refusal) => Answer::Unwritten(refusal, bytes),
+            },
+        )
     }
 }
