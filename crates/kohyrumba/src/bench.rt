@@ -86,7 +86,11 @@ fn time(
         withdrawn = clear_by(&SendingOrder, source, &roll, places, CAPACITY).withdrawn;
     }
     let spent = start.elapsed(rt)?.as_nanos();
-    let each = spent / u128::from(turns.max(1)) / CAPACITY as u128;
+    let entries = u128::from(turns) * CAPACITY as u128;
+    if entries == 0 {
+        return Ok(());
+    }
+    let each = spent / entries;
     println!(
         rt,
         "{name}: {CAPACITY} entries, {MEMBERS} members, {withdrawn} withdrawn, {turns} times: {each} ns per entry"

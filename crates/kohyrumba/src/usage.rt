@@ -9,9 +9,10 @@ const USAGE: &str = "usage: kohyrumba COMMAND
       judge member files: one line for each, accepted or refused with code, layer, place and rule
       --rows    the records of each file below its line, up to the first that cannot be read
       --strict  end with status 1 if a file is refused
-  session PLAN
+  session PLAN [--result PATH]
       carry out a plan: a line for each of docket, open, report, pledge, file and clear;
       show the verdict on each file, and what each clearing withdraws and leaves
+      --result  write the result file of the last clearing
   demo
       the same on a small session that is built in
   write LIST OUT

@@ -10,8 +10,9 @@ use std::io;
 // The session numbers of the records kept.
 fn show_kept(rt: &LibcRuntime, places: &[Place], held: usize) -> io::Result<()> {
     let mut some = false;
-    for (number, place) in (1usize..).zip(places.iter().take(held)) {
+    for (at, place) in places.iter().take(held).enumerate() {
         if place.kept {
+            let number = at.saturating_add(1);
             print!(rt, " {number}")?;
             some = true;
         }
