@@ -1,4 +1,4 @@
-// What people read and write: lists of records, plans of a session, and the papers of a clearing.
+// What people read and write: lists of records, plans of a session, and the sheets of a clearing room.
 pub mod amounts;
 pub mod demo;
 pub mod lists;

@@ -47,7 +47,7 @@ pub fn show_taken(rt: &LibcRuntime, name: &str, rows: Taken) -> io::Result<()> {
     let away = rows.turned_away;
     println!(
         rt,
-        "{name}: accepted, {taken} rows taken, {away} turned away"
+        "{name}: accepted, rows taken {taken}, turned away {away}"
     )
 }
 

@@ -185,7 +185,7 @@ impl Sitting {
         if let calls::Answer::Withdrawn(count) = self.console.settle(ranking, kind) {
             println!(
                 rt,
-                "clearing by {rule} and {source}: {count} records withdrawn"
+                "clearing by {rule} and {source}: records withdrawn {count}"
             )?;
         }
         show_all_withdrawn(rt, self.session(), &self.records)?;

@@ -14,7 +14,7 @@ pub enum Why {
     Refused(Refusal),
     // No line says what the file is.
     NoFileLine,
-    // The paper cannot be printed.
+    // A sheet cannot be printed.
     Output,
 }
 
