@@ -7,7 +7,7 @@ report 2 600.00
 file transfers transfers-of-2
 file transfers transfers-of-7
 file transfers transfers-of-9
-# Member 2 cannot pay its second transfer. Member 7 then lacks cover for its own, and member 9 lacks what 7 would have paid.
+# Member 2 cannot pay its second transfer, nor member 7 its own; member 9 then lacks what both would have paid it.
 clear sending statement
 # With some cover at member 7 the chain ends sooner.
 report 7 100.00
