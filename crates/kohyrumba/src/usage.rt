@@ -43,11 +43,8 @@ pub(crate) fn show_version(rt: &LibcRuntime) -> Result<(), AnyError> {
     Ok(())
 }
 
-// One line that says what is wrong, and an error.
+// One line that says what is wrong, the usage below it, and an error.
 pub(crate) fn bad_usage(rt: &LibcRuntime, problem: &str) -> Result<(), AnyError> {
-    eprintln!(
-        rt,
-        "kohyrumba: {problem}; kohyrumba --help names the commands"
-    )?;
+    eprintln!(rt, "kohyrumba: {problem}\n\n{USAGE}")?;
     Err("bad usage".into())
 }
