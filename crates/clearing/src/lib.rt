@@ -1,4 +1,6 @@
 // The clearing of a table of entries: the greatest lawful covered choice, and the positions that it leaves.
+#![tactic(auto)]
+
 pub mod covers;
 pub mod entry;
 mod keys;

@@ -1,4 +1,6 @@
 // The console of the engine: each line is a command, and each command has an answer of one line.
+#![tactic(auto)]
+
 pub mod answer;
 pub mod console;
 pub mod draft;

@@ -1,2 +1,4 @@
 // The check of member files with what is proved of it in the words of files: exact acceptance and exact refusal.
+#![tactic(auto)]
+
 pub mod judged;

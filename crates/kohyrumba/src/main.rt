@@ -1,4 +1,6 @@
 // The program of the clearing room; it decides nothing itself.
+#![tactic(auto)]
+
 mod bench;
 mod check_files;
 mod help;

@@ -1,2 +1,4 @@
 // Writing numbers into a borrowed buffer, one behind another.
+#![tactic(auto)]
+
 pub mod pen;

@@ -1,4 +1,6 @@
 // What is plugged into a session: instruments, ranking rules and cover sources, with their meanings and laws.
+#![tactic(auto)]
+
 mod book;
 pub mod cover;
 pub mod instrument;

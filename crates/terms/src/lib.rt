@@ -1,4 +1,6 @@
 // The terms of the subject: currencies, cycles, file kinds, dates, refusals, faults and the docket.
+#![tactic(auto)]
+
 pub mod currency;
 pub mod cycle;
 pub mod date;

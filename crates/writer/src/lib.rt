@@ -1,4 +1,6 @@
 // The member-file writer: a file goes into a borrowed buffer record by record, through states that only allow the right order.
+#![tactic(auto)]
+
 pub mod batch_rows;
 pub mod example;
 mod progress;
