@@ -1,5 +1,5 @@
 -- A docket as a value, and what filling one answers.
-use Rattle.std.specs.Prelude.{◌≡◌, ℕ, Bool, cond, ◌&&◌, List, [], ◌∷◌, take, Some, None, Ok, Err, Option, Result}
+use Rattle.std.specs.Prelude.{◌≡◌, ℕ, cond, List, [], ◌∷◌, take, Some, None, Ok, Err, Option, Result}
 use Rattle.terms.specs.Dates.{is_day}
 use Rattle.terms.specs.Numbers.{currency_of, cycle_of}
 use Rattle.terms.specs.Rolls.{is_roll}

@@ -2,7 +2,7 @@
 ghost use Rattle.terms.specs.Numbers.{currency_number, currency_of};
 ghost use Rattle.std.specs.Prelude.{◌≡◌};
 
-#[derive(Clone, Copy)]
+#[derive(Clone, Copy, Debug, PartialEq, Eq)]
 pub enum Currency {
     Soles,
     Dollars,

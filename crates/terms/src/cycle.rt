@@ -2,7 +2,7 @@
 ghost use Rattle.terms.specs.Numbers.{cycle_number, cycle_of};
 ghost use Rattle.std.specs.Prelude.{◌≡◌};
 
-#[derive(Clone, Copy)]
+#[derive(Clone, Copy, Debug, PartialEq, Eq)]
 pub enum Cycle {
     Morning,
     Intermediate,

@@ -5,7 +5,7 @@ ghost use Rattle.std.specs.Prelude.{◌≡◌};
 use crate::refusal::Refusal;
 
 // The layers of checks: of a record's own bytes, of the file, of the file against the session.
-#[derive(Clone, Copy)]
+#[derive(Clone, Copy, Debug, PartialEq, Eq)]
 pub enum Layer {
     Fields,
     File,
@@ -25,7 +25,7 @@ impl Layer {
     }
 }
 
-#[derive(Clone, Copy)]
+#[derive(Clone, Copy, Debug, PartialEq, Eq)]
 pub struct Fault {
     pub cause: Refusal,
     // The first byte of the record at fault; 0 where the whole file is.

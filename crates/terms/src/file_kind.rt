@@ -2,7 +2,7 @@
 ghost use Rattle.terms.specs.Numbers.{batch_kind, kind_number, kind_of};
 ghost use Rattle.std.specs.Prelude.{◌≡◌};
 
-#[derive(Clone, Copy)]
+#[derive(Clone, Copy, Debug, PartialEq, Eq)]
 pub enum FileKind {
     Presentations,
     Returns,

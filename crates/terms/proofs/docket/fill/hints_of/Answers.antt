@@ -1,6 +1,6 @@
 use Rattle.std.proofs.Common.{arith}
 use lib.Seq.{take-length}
-use Rattle.terms.proofs.Rolls.{RollFacts, roll_facts}
+use Rattle.terms.proofs.Rolls.{roll_facts}
 use Rattle.terms.proofs.docket.fill.hints_of.Goals as goal
 
 pub bounds-hints-roll : goal.bounds-hints-roll

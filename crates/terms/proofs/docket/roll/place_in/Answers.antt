@@ -1,4 +1,4 @@
-use Rattle.std.proofs.Common.{eqb, get_or, sym, ◌∙◌, arith, eq-eqb, ne_eqb}
+use Rattle.std.proofs.Common.{eqb, sym, ◌∙◌, arith, eq-eqb, ne_eqb}
 use Rattle.terms.proofs.Places.{place_here, place_none, place_on_lem, place_start}
 use Rattle.terms.proofs.docket.roll.place_in.Goals as goal
 

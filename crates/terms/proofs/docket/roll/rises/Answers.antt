@@ -1,4 +1,4 @@
-use Rattle.std.proofs.Common.{sym, ap, ◌∙◌, arith, drop_of_length-le}
+use Rattle.std.proofs.Common.{sym, ap, ◌∙◌, drop_of_length-le}
 use Rattle.terms.specs.Rolls.{rises_from}
 use Rattle.terms.proofs.Rolls.{rises_high, rises_low, rises_on}
 use Rattle.terms.proofs.docket.roll.rises.Goals as goal
