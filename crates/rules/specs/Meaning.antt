@@ -1,5 +1,5 @@
 -- What an instrument means: the value made of all its answers.
-use Rattle.std.specs.Prelude.{◌≡◌, ℕ, ◌≤◌, Bool, Ok, Err, Result}
+use Rattle.std.specs.Prelude.{◌≡◌, ℕ, ◌≤◌, Bool, Ok, Result}
 use Rattle.terms.specs.declared.currency.Currency.{Currency}
 use Rattle.rules.specs.declared.instrument.Denial.{Denial}
 

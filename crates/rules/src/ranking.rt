@@ -3,7 +3,7 @@ ghost use Rattle.rules.specs.Order.{Order, Strict};
 ghost use Rattle.std.specs.Prelude.{◌≡◌};
 
 // What a rule may look at of a record.
-#[derive(Clone, Copy)]
+#[derive(Clone, Copy, Debug)]
 pub struct Key {
     pub record_type: u8,
     pub worth: u32,
