@@ -64,28 +64,23 @@ fn wages_stand_first(rt: HostRuntime) {
     assert!(rt; WagesFirst.before(key(100, 1), key(220, 2)));
 }
 
-// The number of a refusal, or 0.
-fn code_of(answer: Result<(), Refusal>) -> u8 {
-    match answer {
-        Ok(()) => 0,
-        Err(refusal) => refusal.code(),
-    }
-}
-
 #[test]
 fn sources_hold_what_was_last_reported(rt: HostRuntime) {
     let mut statement = Statement::new();
     for code in 1..=64u16 {
-        assert_eq!(rt; code_of(statement.report(code, 600)), 0);
+        assert_eq!(rt; statement.report(code, 600), Ok(()));
     }
-    assert_eq!(rt; code_of(statement.report(65, 600)), 51);
-    assert_eq!(rt; code_of(statement.report(2, 500)), 0);
-    assert_eq!(rt; code_of(statement.report(2, 1_000_000_000_000_001)), 50);
+    assert_eq!(rt; statement.report(65, 600), Err(Refusal::TooManyReports));
+    assert_eq!(rt; statement.report(2, 500), Ok(()));
+    assert_eq!(rt;
+        statement.report(2, 1_000_000_000_000_001),
+        Err(Refusal::ReportLimits)
+    );
     assert_eq!(rt; statement.cover(2), 500);
     assert_eq!(rt; statement.cover(64), 600);
     assert_eq!(rt; statement.cover(65), 0);
     let mut pledges = Pledges::new();
-    assert_eq!(rt; code_of(pledges.report(7, 100, 199, 50)), 0);
-    assert_eq!(rt; code_of(pledges.report(999, 0, 0, 101)), 50);
+    assert_eq!(rt; pledges.report(7, 100, 199, 50), Ok(()));
+    assert_eq!(rt; pledges.report(999, 0, 0, 101), Err(Refusal::ReportLimits));
     assert_eq!(rt; pledges.cover(7), 199);
 }
