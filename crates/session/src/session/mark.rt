@@ -2,7 +2,7 @@
 ghost use Rattle.session.specs.Questions.{mark_number};
 ghost use Rattle.std.specs.Prelude.{◌≡◌};
 
-#[derive(Clone, Copy)]
+#[derive(Clone, Copy, Debug, PartialEq, Eq)]
 pub enum Mark {
     // The session does not stand cleared.
     Unmarked,

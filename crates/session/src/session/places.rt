@@ -1,6 +1,6 @@
 // What stands at the places of a session: entries by their place in the table, members by their place on the roll.
 ghost use Rattle.clearing.specs.Table.{cover_of};
-ghost use Rattle.session.specs.Questions.{SheetIn};
+ghost use Rattle.session.specs.Questions.{SheetIn, position_at};
 ghost use Rattle.table.specs.Entries.{entries_of, entry_in, kept_of};
 ghost use Rattle.std.specs.Prelude.{◌≡◌};
 
@@ -35,6 +35,13 @@ impl Session {
         ensures { SheetIn self.now result }
     {
         self.table.sheet()
+    }
+
+    // The position of the member at a place on the roll, over the kept entries.
+    pub fn position_at(&self, place: u8) -> i64
+        ensures { result ≡ position_at self.now place }
+    {
+        self.table.position(place)
     }
 
     // The cover stored for the member at a place on the roll.
