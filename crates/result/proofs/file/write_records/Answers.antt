@@ -6,35 +6,35 @@ use Rattle.result.proofs.Gathering.{gathered_ones}
 use Rattle.result.proofs.Written.{members_long, withdrawn_long}
 use Rattle.result.proofs.file.write_records.Goals as goal
 
-pub write-members-lines-requires : goal.write-members-lines-requires
-write-members-lines-requires c =
-    let h = c.write-header-header-end.ensures in
+pub write_members-lines-requires : goal.write_members-lines-requires
+write_members-lines-requires c =
+    let h = c.write_header-header_end.ensures in
     record { sheet = c.requires.sheet; room = omega (arith, h.place, h.size, c.requires.members, c.requires.room) }
 
-pub write-all-withdrawn-withdrawn-end-requires : goal.write-all-withdrawn-withdrawn-end-requires
-write-all-withdrawn-withdrawn-end-requires c =
+pub write_all_withdrawn-withdrawn_end-requires : goal.write_all_withdrawn-withdrawn_end-requires
+write_all_withdrawn-withdrawn_end-requires c =
     let s = c.args.session.now in
-    let h = c.write-header-header-end.ensures in
-    let p = c.write-members-lines.ensures.wrote in
+    let h = c.write_header-header_end.ensures in
+    let p = c.write_members-lines.ensures.wrote in
     record {
       cleared = c.requires.cleared;
       count = c.requires.withdrawn;
       room = omega (arith, h.place, h.size, p.place, p.size, members_long (lines_of s), gathered_ones (line_at s) (length (roll_of s.docket)), c.requires.members, c.requires.withdrawn, c.requires.room);
     }
 
-pub write-totals-requires : goal.write-totals-requires
-write-totals-requires c =
+pub write_totals-requires : goal.write_totals-requires
+write_totals-requires c =
     let s = c.args.session.now in
-    let h = c.write-header-header-end.ensures in
-    let p = c.write-members-lines.ensures.wrote in
-    let q = c.write-all-withdrawn-withdrawn-end.ensures in
+    let h = c.write_header-header_end.ensures in
+    let p = c.write_members-lines.ensures.wrote in
+    let q = c.write_all_withdrawn-withdrawn_end.ensures in
     omega (arith, h.place, h.size, p.place, p.size, q.place, q.size, members_long (lines_of s), gathered_ones (line_at s) (length (roll_of s.docket)), withdrawn_long (withdrawn_of s), c.requires.members, c.requires.withdrawn, c.requires.room)
 
 pub returns : goal.returns
 returns c =
     let s = c.args.session.now in
     let e = c.docket-docket.ensures in
-    let lines = c.write-members-lines in
+    let lines = c.write_members-lines in
     all_written_lem s c.currency.result c.cycle.result c.date.result c.args.members c.args.withdrawn lines.result.sum
     (c.currency.ensures ∙ ap (λ d. (day_of d).currency) e) (c.cycle.ensures ∙ ap (λ d. (day_of d).cycle) e) (c.date.ensures ∙ ap (λ d. (day_of d).date) e) c.requires.members c.requires.withdrawn lines.ensures.sum
-    c.write-header-header-end.ensures lines.ensures.wrote c.write-all-withdrawn-withdrawn-end.ensures c.write-totals.ensures
+    c.write_header-header_end.ensures lines.ensures.wrote c.write_all_withdrawn-withdrawn_end.ensures c.write_totals.ensures

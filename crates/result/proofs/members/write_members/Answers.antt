@@ -14,30 +14,30 @@ loop-m-init c =
     let s = c.args.session.now in
     (starts enc_member (λ i. line_at s i ∷ []) c.args.out.now c.args.at (omega arith), sym (sum_none s))
 
-pub write-member-end-requires : goal.write-member-end-requires
-write-member-end-requires c =
+pub write_member-end-requires : goal.write_member-end-requires
+write_member-end-requires c =
     let s = c.args.session.now in
     let m = c.loop-m.m in
     let p = c.loop-m.invariant.0 in
     omega (arith, p.place, p.size, members_long (lines_up_to s m), gathered_ones (line_at s) m)
 
 -- what one member adds
-adds : (c : goal.After-positive-part-sum) → c.positive-part-sum.result ≡ positive (position_at c.args.session.now c.loop-m.m)
+adds : (c : goal.After-positive_part-sum) → c.positive_part-sum.result ≡ positive (position_at c.args.session.now c.loop-m.m)
 adds c =
-    let f : SFits w64 c.line-at-line.result.position = search rules in
-    let e = simp to_z-of_z at c.positive-part-sum.ensures in
-    e ∙ ap (λ (l : MemberLine). positive l.position) c.line-at-line.ensures
+    let f : SFits w64 c.line_at-line.result.position = search rules in
+    let e = simp to_z-of_z at c.positive_part-sum.ensures in
+    e ∙ ap (λ (l : MemberLine). positive l.position) c.line_at-line.ensures
 
 pub overflow_add_sum : goal.overflow_add_sum
 overflow_add_sum c =
     let s = c.args.session.now in
     let m = c.loop-m.m in
-    omega (arith, adds c, position_low s m, sum_low s m, c.loop-m.invariant.1, c.loop-m-test.true, c.members-in-m-end.ensures.few)
+    omega (arith, adds c, position_low s m, sum_low s m, c.loop-m.invariant.1, c.loop-m-test.true, c.members_in-m-end.ensures.few)
 
 pub loop-m-preserved : goal.loop-m-preserved
 loop-m-preserved c =
     let s = c.args.session.now in
     let m = c.loop-m.m in (
-      goes_on enc_member (λ i. line_at s i ∷ []) m c.line-at-line.result (ap (λ z. z ∷ []) (sym c.line-at-line.ensures)) c.loop-m.invariant.0 c.write-member-end.ensures,
+      goes_on enc_member (λ i. line_at s i ∷ []) m c.line_at-line.result (ap (λ z. z ∷ []) (sym c.line_at-line.ensures)) c.loop-m.invariant.0 c.write_member-end.ensures,
       omega (arith, adds c, sum_more s m, c.loop-m.invariant.1),
     )

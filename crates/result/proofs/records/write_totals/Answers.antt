@@ -5,6 +5,6 @@ use Rattle.result.proofs.records.write_totals.Goals as goal
 
 pub returns : goal.returns
 returns c =
-    let w = wrote_more c.write-head.ensures.wrote (wrote_more c.u16.ensures.wrote (wrote_more c.u16-2.ensures.wrote c.u64.ensures.wrote)) in
-    let n = sym (c.u64.ensures.name ∙ c.u16-2.ensures.name ∙ c.u16.ensures.name ∙ c.write-head.ensures.name) in
+    let w = wrote_more c.write_head.ensures.wrote (wrote_more c.u16.ensures.wrote (wrote_more c.u16-2.ensures.wrote c.u64.ensures.wrote)) in
+    let n = sym (c.u64.ensures.name ∙ c.u16-2.ensures.name ∙ c.u16.ensures.name ∙ c.write_head.ensures.name) in
     wrote_into w (search rules)

@@ -7,13 +7,13 @@ use Rattle.result.specs.Value.{withdrawn_at, withdrawn_of, withdrawn_up_to}
 use Rattle.result.proofs.Gathering.{gathered_all, gathered_within}
 use Rattle.result.proofs.Written.{goes_on, starts, stays, withdrawn_long, wrote_there}
 use Rattle.result.proofs.withdrawn.write_all_withdrawn.Goals as goal
-use Rattle.result.proofs.withdrawn.write_all_withdrawn.Goals.{in-Some, in-default}
+use Rattle.result.proofs.withdrawn.write_all_withdrawn.Goals.{in-Some, in_default}
 
 pub loop-i-init : goal.loop-i-init
 loop-i-init c = starts enc_withdrawn (withdrawn_at c.args.session.now) c.args.out.now c.args.at (omega arith)
 
-pub write-withdrawn-end-requires : goal.write-withdrawn-end-requires
-write-withdrawn-end-requires c =
+pub write_withdrawn-end-requires : goal.write_withdrawn-end-requires
+write_withdrawn-end-requires c =
     let s = c.args.session.now in
     let i = c.loop-i.i in
     let n = length (entries_of s.table) in
@@ -24,9 +24,9 @@ pub loop-i-preserved : goal.loop-i-preserved
 loop-i-preserved c =
     let at = withdrawn_at c.args.session.now in
     let i = c.loop-i.i in
-    elim c.match-withdrawn-at.branch [
-      | in-Some w ↦ wrote_there (goes_on enc_withdrawn at i w.in-Some.entry (sym w.in-Some.ensures) c.loop-i.invariant w.write-withdrawn-end.ensures) w.out-is w.end-is
-      | in-default w ↦ wrote_there (stays enc_withdrawn at i (sym w.in-default.ensures) c.loop-i.invariant) w.out-is w.end-is
+    elim c.match-withdrawn_at.branch [
+      | in-Some w ↦ wrote_there (goes_on enc_withdrawn at i w.in-Some.entry (sym w.in-Some.ensures) c.loop-i.invariant w.write_withdrawn-end.ensures) w.out-is w.end-is
+      | in_default w ↦ wrote_there (stays enc_withdrawn at i (sym w.in_default.ensures) c.loop-i.invariant) w.out-is w.end-is
     ]
 
 pub returns-then-end-behind : goal.returns-then-end-behind

@@ -6,4 +6,4 @@ pub overflow_cast_first : goal.overflow_cast_first
 overflow_cast_first c = let l = place_low c.args.self.now.docket c.args.a c.in-Some.first (sym c.in-Some.ensures) in omega arith
 
 pub overflow_cast_second : goal.overflow_cast_second
-overflow_cast_second c = let l = place_low c.args.self.now.docket c.args.b c.in-Some-place-of.second (sym c.in-Some-place-of.ensures) in omega arith
+overflow_cast_second c = let l = place_low c.args.self.now.docket c.args.b c.in-Some-place_of.second (sym c.in-Some-place_of.ensures) in omega arith

@@ -25,13 +25,13 @@ returns g c =
     let last : c.last.result ≡ last_number l kind f.header.origin = c.last.ensures ∙ (λ i. get_or (numbers_same kind s i) (ap (λ o. unwrap_or o 0) here i) 0) in
     record {
       sender = ap Ok same ∙ ap (λ o. unless o (sender_of l f.header)) (sym (none_hold (file_rules l m f c.args.room) (
-        sym (ap not c.if-not-is-of-day.ensures),
+        sym (ap not c.if-not-is_of_day.ensures),
         (
           sym (ap (λ o. not (is_some o)) here),
           (
-            sym (ap not (c.if-not-is-next.ensures ∙ ap (λ n. eqb f.header.number (n + 1)) last)),
+            sym (ap not (c.if-not-is_next.ensures ∙ ap (λ n. eqb f.header.number (n + 1)) last)),
             (
-              sym (c.if-is-untaken.ensures ∙ ap (λ b. is_returns kind && not b) c.takes-returns.ensures),
+              sym (c.if-is_untaken.ensures ∙ ap (λ b. is_returns kind && not b) c.takes_returns.ensures),
               (le-ltb _ _ (omega (arith, c.if-capacity-held.false, c.held.ensures.value, c.capacity.ensures.value, c.from.ensures)), (le-ltb _ _ (omega (arith, c.if-room-from.false, c.from-2.ensures)), tt)),
             ),
           ),

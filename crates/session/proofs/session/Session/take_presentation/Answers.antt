@@ -10,8 +10,8 @@ pub returns : goal.returns
 returns g c =
     let s = c.args.self.now in
     let l : Ledger = ledger_of s in
-    let e = c.in-ok-entry.entry in
-    let is = c.in-ok-entry.ensures in
+    let e = c.in_ok-entry.entry in
+    let is = c.in_ok-entry.ensures in
     let within = taken_within s.docket (g.I.Instrument.meaning c.args.instrument.now) (g.met.I.Instrument.limited c.args.instrument.now) c.args.sender c.requires.place l.entries c.args.p e (sym is) in
     let put : c.put.result ≡ true = c.put.ensures.answer ∙ (λ i. within i && lt-ltb (length l.entries) l.capacity c.requires.room i) in
     let after : entries_of c.put.new.self ≡ l.entries ++ (e ∷ []) = c.put.ensures.entries ∙ ap (λ b. cond b (l.entries ++ (e ∷ [])) l.entries) put in

@@ -11,8 +11,8 @@ returns-in-Presentation g c =
     let s = c.args.sender in
     let is = c.in-Presentation.is in
     record {
-      outcome = c.outcome-of.ensures ∙ c.take-presentation.ensures.outcome ∙ sym (outcome_put l.entries (presentation_taken l.day m s l.entries c.in-Presentation.p)) ∙ ap (λ r. outcome_of (row_taken l.day m s l.entries r)) (sym is);
-      ledger = c.take-presentation.ensures.ledger ∙ ap (λ r. with_entries l (after_row l.day m s l.entries r)) (sym is);
+      outcome = c.outcome_of.ensures ∙ c.take_presentation.ensures.outcome ∙ sym (outcome_put l.entries (presentation_taken l.day m s l.entries c.in-Presentation.p)) ∙ ap (λ r. outcome_of (row_taken l.day m s l.entries r)) (sym is);
+      ledger = c.take_presentation.ensures.ledger ∙ ap (λ r. with_entries l (after_row l.day m s l.entries r)) (sym is);
     }
 
 pub returns-in-Return : goal.returns-in-Return
@@ -22,6 +22,6 @@ returns-in-Return g c =
     let s = c.args.sender in
     let is = c.in-Return.is in
     record {
-      outcome = c.outcome-of-in-Return.ensures ∙ c.take-return.ensures.outcome ∙ sym (outcome_struck l.entries (return_taken s l.entries c.in-Return.r)) ∙ ap (λ r. outcome_of (row_taken l.day m s l.entries r)) (sym is);
-      ledger = c.take-return.ensures.ledger ∙ ap (λ r. with_entries l (after_row l.day m s l.entries r)) (sym is);
+      outcome = c.outcome_of-in-Return.ensures ∙ c.take_return.ensures.outcome ∙ sym (outcome_struck l.entries (return_taken s l.entries c.in-Return.r)) ∙ ap (λ r. outcome_of (row_taken l.day m s l.entries r)) (sym is);
+      ledger = c.take_return.ensures.ledger ∙ ap (λ r. with_entries l (after_row l.day m s l.entries r)) (sym is);
     }

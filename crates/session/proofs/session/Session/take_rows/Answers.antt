@@ -10,10 +10,10 @@ loop-row-preserved-then-outcome-eq0 g c =
     let es = (ledger_of s).entries in
     let m = g.I.Instrument.meaning c.args.instrument.now in
     let day = ap (λ x. x.day) c.loop-row.invariant.1 in
-    let did = c.take-row-outcome.ensures in
+    let did = c.take_row-outcome.ensures in
     let left = ap (λ x. x.entries) did.ledger in (
       enters _ m c.args.sender _ _ _ _ _ _ c.loop-row.invariant.0 c.in-Some.ensures.steps (did.outcome ∙ ap (λ d. outcome_of (row_taken d m c.args.sender es c.in-Some.row)) day) (left ∙ ap (λ d. after_row d m c.args.sender es c.in-Some.row) day)
-          (ap (λ b. c.loop-row.taken + cond b 1 0) (sym (eq-eqb c.take-row-outcome.result 0 c.if-outcome-eq0.true))) (omega arith),
+          (ap (λ b. c.loop-row.taken + cond b 1 0) (sym (eq-eqb c.take_row-outcome.result 0 c.if-outcome-eq0.true))) (omega arith),
       did.ledger ∙ (λ i. with_entries (c.loop-row.invariant.1 i) (sym left i)),
     )
 
@@ -23,10 +23,10 @@ loop-row-preserved g c =
     let es = (ledger_of s).entries in
     let m = g.I.Instrument.meaning c.args.instrument.now in
     let day = ap (λ x. x.day) c.loop-row.invariant.1 in
-    let did = c.take-row-outcome.ensures in
+    let did = c.take_row-outcome.ensures in
     let left = ap (λ x. x.entries) did.ledger in (
       enters _ m c.args.sender _ _ _ _ _ _ c.loop-row.invariant.0 c.in-Some.ensures.steps (did.outcome ∙ ap (λ d. outcome_of (row_taken d m c.args.sender es c.in-Some.row)) day) (left ∙ ap (λ d. after_row d m c.args.sender es c.in-Some.row) day)
-          (omega (arith, ap {B = ℕ} (λ b. cond b 1 0) (ne_eqb c.take-row-outcome.result 0 c.if-outcome-eq0.false))) (omega arith),
+          (omega (arith, ap {B = ℕ} (λ b. cond b 1 0) (ne_eqb c.take_row-outcome.result 0 c.if-outcome-eq0.false))) (omega arith),
       did.ledger ∙ (λ i. with_entries (c.loop-row.invariant.1 i) (sym left i)),
     )
 
