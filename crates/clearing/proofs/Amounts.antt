@@ -1,5 +1,5 @@
 -- Amounts as they are gathered, one for each place on the roll.
-use Rattle.std.proofs.Common.{◌≡◌, ℕ, ◌<◌, ◌≤◌, List, length, get_or, set, replicate, inl, inr, arith, length-set}
+use Rattle.std.proofs.Common.{◌≡◌, ℕ, List, length, get_or, set, replicate, inl, inr, arith, length-set}
 use lib.ListN.{get_or-replicate, length-replicate}
 use Rattle.std.proofs.lemmas.List.{get_or_past, get_or-set_same, get_or-set_other}
 use Rattle.std.proofs.lemmas.Bool.{cases_lt, cases_eq}

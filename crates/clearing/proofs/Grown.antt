@@ -1,8 +1,8 @@
 -- Greatest choices under rules of one meaning and other covers.
-use Rattle.std.proofs.Common.{◌≡◌, ℕ, ◌<◌, ◌≤◌, Bool, true, false, not, ◌&&◌, List, sym, refl, ap, ◌∙◌, inl, inr, arith}
+use Rattle.std.proofs.Common.{◌≡◌, ℕ, Bool, true, false, not, List, sym, refl, ap, ◌∙◌, inl, inr, arith}
 use Rattle.std.proofs.lemmas.Bool.{cases_Bool, both_ways, and_parts}
 use Rattle.rules.specs.Order.{Order}
-use Rattle.clearing.specs.Choices.{key_at, live, Choice, Lawful, Covered, Greatest}
+use Rattle.clearing.specs.Choices.{key_at, live, Choice, Greatest}
 use Rattle.clearing.specs.Laws.{GrowsWithCovers, LeftOutNowhereElse, PaymentsCovered, Unique}
 use Rattle.clearing.specs.Table.{Cleared}
 use Rattle.clearing.specs.declared.entry.Entry.{Entry}

@@ -1,7 +1,7 @@
 -- Entries in lanes: the last of a member is the top that no other top of its stands behind; one entry more on a lane, and a top taken off.
 use Rattle.std.proofs.Common.{◌≡◌, ℕ, zero, suc, ◌+◌, ◌-◌, ◌*◌, ◌%◌, ◌<◌, ◌≤◌, max, Bool, true, false, cond, ◌&&◌, ◌||◌, eqb, ltb, ◌⊎◌, List, length, get_or, set, sym, refl, ap, ◌∙◌, subst, subst₂, inl, inr, arith, length-set}
 use Rattle.std.proofs.lemmas.List.{get_or-set_same, get_or-set_other}
-use Rattle.std.proofs.lemmas.Bool.{cases_eq, cases_lt, cases_Bool, and_cases, and_parts, and_from, or_cases, or_parts, or_left, or_right, eqb-true, eqb-false, eq-eqb, ltb-true, ltb-false, lt-ltb, le-ltb, ne_eqb, cond-true, cond-false, both_ways}
+use Rattle.std.proofs.lemmas.Bool.{cases_eq, cases_lt, cases_Bool, and_cases, and_parts, or_cases, or_parts, eqb-true, eqb-false, eq-eqb, ltb-true, ltb-false, le-ltb, ne_eqb, cond-true, cond-false, both_ways}
 use Rattle.rules.specs.Order.{Order, Strict}
 use Rattle.clearing.specs.Balances.{LastOf, Without}
 use Rattle.clearing.specs.Choices.{Choice, entry_at, key_at}

@@ -1,8 +1,7 @@
 -- The entries and marks of a table's places.
-use Rattle.std.proofs.Common.{◌≡◌, ℕ, zero, suc, ◌<◌, ◌≤◌, Bool, true, false, cond, not, ◌&&◌, ◌⊎◌, List, [], ◌∷◌, map, length, get_or, take, set, sym, refl, ap, ◌∙◌, inl, inr, arith, length-take}
+use Rattle.std.proofs.Common.{◌≡◌, ℕ, zero, suc, ◌<◌, ◌≤◌, Bool, true, false, cond, not, ◌&&◌, List, [], ◌∷◌, length, get_or, take, set, sym, ap, ◌∙◌, arith, length-take}
 use lib.ListN.{length-map}
 use Rattle.std.proofs.lemmas.List.{get_or_past, get_or-take, get_or-map, map-set, set-get_or, get_or-set_same, get_or-set_other}
-use Rattle.std.proofs.lemmas.Bool.{cases_lt, both_ways}
 use Rattle.clearing.specs.Choices.{no_entry, entry_at, live, share}
 use Rattle.clearing.specs.Table.{entries, marks, kept}
 use Rattle.clearing.specs.declared.entry.Entry.{Entry}

@@ -1,10 +1,10 @@
 -- Positions add up: all to zero, and those between pairs to those of members.
-use Rattle.std.proofs.Common.{◌≡◌, ℕ, zero, suc, ◌+◌, ◌<◌, Bool, true, false, cond, ◌&&◌, eqb, List, length, ℤ, pos, ◌+ℤ◌, ◌-ℤ◌, neg_ℤ, sym, refl, ap, ◌∙◌, arith}
+use Rattle.std.proofs.Common.{◌≡◌, ℕ, zero, suc, ◌<◌, Bool, true, false, cond, ◌&&◌, eqb, List, length, pos, ◌-ℤ◌, neg_ℤ, sym, refl, ap, ◌∙◌, arith}
 use lib.IntN.{+ℤ_invr}
 use Rattle.std.proofs.lemmas.Int.{ints}
 use Rattle.clearing.specs.Choices.{up_to, entry_at, Choice, share, total, is_on, payer_of, receiver_of, paid, received}
 use Rattle.clearing.specs.Laws.{BilateralsAddUp, BilateralsOpposite, NothingWithItself, PositionsCancel}
-use Rattle.clearing.specs.Positions.{signed_up_to, position, is_between, paid_to, bilateral}
+use Rattle.clearing.specs.Positions.{signed_up_to, position, is_between, paid_to}
 use Rattle.clearing.specs.Table.{entries}
 use Rattle.clearing.specs.declared.entry.Entry.{Entry}
 use Rattle.clearing.proofs.Marks.{payers, receivers}

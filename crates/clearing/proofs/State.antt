@@ -1,9 +1,9 @@
 -- What a clearing keeps true as it withdraws entry after entry, and one step of it.
-use Rattle.std.proofs.Common.{◌≡◌, ℕ, ◌+◌, ◌-◌, ◌<◌, ◌≤◌, Bool, true, false, cond, not, ◌&&◌, eqb, ◌⊎◌, List, length, get_or, set, sym, refl, ap, ◌∙◌, subst, inl, inr, arith, length-set}
-use Rattle.std.proofs.lemmas.Bool.{cases_eq, cases_lt, and_parts, and_from, and_right, eqb-true, both_ways}
+use Rattle.std.proofs.Common.{◌≡◌, ℕ, ◌+◌, ◌<◌, ◌≤◌, Bool, true, false, cond, not, ◌&&◌, eqb, List, length, get_or, sym, refl, ap, ◌∙◌, inl, inr, arith, length-set}
+use Rattle.std.proofs.lemmas.Bool.{cases_eq, cases_lt, and_from, and_right, eqb-true, both_ways}
 use Rattle.rules.specs.Order.{Order, Strict}
 use Rattle.clearing.specs.Balances.{Balanced, LastOf, NoneShort, Without, lowered}
-use Rattle.clearing.specs.Choices.{up_to, entry_at, key_at, live, Choice, Within, share, total, is_on, payer_of, receiver_of, paid, received, size, left_out, Lawful, Covered, Greatest}
+use Rattle.clearing.specs.Choices.{entry_at, key_at, live, Choice, Within, share, total, is_on, payer_of, receiver_of, size, left_out, Lawful, Covered, Greatest}
 use Rattle.clearing.specs.declared.entry.Entry.{Entry}
 use Rattle.clearing.proofs.Marks.{live_past}
 use Rattle.clearing.proofs.Shares.{size_without, share_le, tally_less}

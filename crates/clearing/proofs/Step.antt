@@ -1,5 +1,5 @@
 -- The heart of the matter: the last kept payment of a member that is short is in no lawful covered choice.
-use Rattle.std.proofs.Common.{◌≡◌, ℕ, ◌+◌, ◌<◌, ◌≤◌, Bool, true, false, ◌⊎◌, List, sym, ◌∙◌, subst, inl, inr, arith}
+use Rattle.std.proofs.Common.{◌≡◌, ℕ, ◌+◌, ◌<◌, true, List, sym, ◌∙◌, subst, inl, inr, arith}
 use Rattle.std.proofs.lemmas.Bool.{cases_eq, eqb-true}
 use Rattle.rules.specs.Order.{Order}
 use Rattle.clearing.specs.Choices.{entry_at, key_at, live, Choice, Within, is_on, payer_of, receiver_of, paid, received, Lawful, Covered}

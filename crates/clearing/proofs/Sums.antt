@@ -1,5 +1,5 @@
 -- Sums over the first places of a table.
-use Rattle.std.proofs.Common.{◌≡◌, ℕ, zero, suc, ◌+◌, ◌*◌, ◌<◌, ◌≤◌, Bool, true, false, cond, ◌&&◌, eqb, ◌⊎◌, List, length, sym, refl, ap, ◌∙◌, inl, inr, suc-mul, add-one, arith}
+use Rattle.std.proofs.Common.{◌≡◌, ℕ, zero, suc, ◌+◌, ◌*◌, ◌<◌, ◌≤◌, Bool, true, false, cond, ◌&&◌, eqb, List, length, sym, refl, ap, ◌∙◌, inl, inr, suc-mul, add-one, arith}
 use Rattle.std.proofs.lemmas.Bool.{cases_eq, and_parts, and_from, eq-eqb, ne_eqb}
 use Rattle.clearing.specs.Choices.{up_to, entry_at, Choice, share, total, size}
 use Rattle.clearing.specs.declared.entry.Entry.{Entry}

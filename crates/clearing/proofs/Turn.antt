@@ -1,5 +1,5 @@
 -- One turn of the clearing of a table: the last entry of a short member is withdrawn.
-use Rattle.std.proofs.Common.{◌≡◌, ℕ, ◌+◌, ◌-◌, ◌<◌, Bool, true, false, List, length, get_or, set, sym, subst, arith}
+use Rattle.std.proofs.Common.{◌≡◌, ℕ, ◌+◌, ◌<◌, false, List, length, get_or, set, sym, subst, arith}
 use mathlib.Core.Path.{subst₃}
 use Rattle.rules.specs.Order.{Order, Strict}
 use Rattle.clearing.specs.Balances.{LastOf, Without, lowered}

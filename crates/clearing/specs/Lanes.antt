@@ -1,6 +1,6 @@
 -- The chosen entries of each payer in lanes: four lanes to a member, each rising by rank from its bottom to its top. A top or what lies
 -- below an entry is told as its session number, and 0 where there is none.
-use Rattle.std.specs.Prelude.{◌≡◌, ℕ, ◌+◌, ◌-◌, ◌*◌, ◌%◌, ◌<◌, ◌≤◌, max, Bool, true, false, ◌&&◌, ◌||◌, ◌⊎◌, List, length, ◌==◌, nat_lt, slice_index}
+use Rattle.std.specs.Prelude.{◌≡◌, ℕ, ◌+◌, ◌-◌, ◌*◌, ◌%◌, ◌<◌, ◌≤◌, Bool, true, false, ◌&&◌, ◌||◌, ◌⊎◌, List, length, ◌==◌, nat_lt, slice_index}
 use Rattle.rules.specs.Order.{Order}
 use Rattle.clearing.specs.Choices.{Choice, entry_at, key_at}
 use Rattle.clearing.specs.declared.entry.Entry.{Entry}

@@ -1,5 +1,5 @@
 -- What holds of every greatest choice, and of the positions of every choice.
-use Rattle.std.specs.Prelude.{◌≡◌, ℕ, ◌+◌, ◌<◌, ◌≤◌, Bool, List, ℤ, pos, neg_ℤ}
+use Rattle.std.specs.Prelude.{◌≡◌, ℕ, ◌+◌, ◌<◌, ◌≤◌, List, pos, neg_ℤ}
 use Rattle.rules.specs.Order.{Order}
 use Rattle.rules.specs.declared.ranking.Key.{Key}
 use Rattle.clearing.specs.Choices.{Choice, Greatest, NowhereElse, Within, paid, received}

@@ -1,4 +1,4 @@
-use Rattle.std.proofs.Common.{ℕ, ◌+◌, get_or, sym, ap, ◌∙◌}
+use Rattle.std.proofs.Common.{◌+◌, get_or, sym, ap, ◌∙◌}
 use Rattle.rules.specs.declared.ranking.Key.{Key}
 use Rattle.clearing.specs.Choices.{entry_at}
 use Rattle.clearing.specs.Table.{entries}

@@ -9,7 +9,7 @@ use Rattle.clearing.specs.declared.place.Place.{Place}
 use Rattle.clearing.proofs.Last.{last_none, last_skip, last_take, last_stay}
 use Rattle.clearing.proofs.Marks.{entry_is, mark_is, entries_long}
 use Rattle.clearing.proofs.keys.last_of.Goals as goal
-use Rattle.clearing.proofs.keys.last_of.Goals.{then-is-kept-of+then-last-places, then-last-places-via-then-last-places, then-last-places-via-else-last-places+then-before, then-is-kept-of+else-last-places+else-before, else-is-kept-of}
+use Rattle.clearing.proofs.keys.last_of.Goals.{then-is_kept_of+then-last-places, then-last-places-via-then-last-places, then-last-places-via-else-last-places+then-before, then-is_kept_of+else-last-places+else-before, else-is_kept_of}
 
 pub loop-i-init : goal.loop-i-init
 loop-i-init g c =
@@ -39,28 +39,28 @@ loop-i-preserved g c =
     let ahead = g.R.Ranking.ahead c.args.rule.now in
     let strict = g.met.R.Ranking.strict c.args.rule.now in
     let lt : i < length es = omega (arith, entries_long ps) in
-    let is : c.is-kept-of.result ≡ (kept ps i && eqb (entry_at es i).payer m) = tested ps i m c.index-places-i.result c.is-kept-of.result c.loop-i-test.true c.index-places-i.is c.is-kept-of.ensures in
+    let is : c.is_kept_of.result ≡ (kept ps i && eqb (entry_at es i).payer m) = tested ps i m c.index-places-i.result c.is_kept_of.result c.loop-i-test.true c.index-places-i.is c.is_kept_of.ensures in
     let P : ℕ → Type 0 = λ x. LastOf ahead es (kept ps) m (i + 1) x × (x ≤ length ps) in
-    elim c.if-is-kept-of.branch [
-      | then-is-kept-of+then-last-places w ↦ subst P (sym w.last_is) (
-        last_take ahead es (kept ps) m strict i r lt (sym is ∙ w.if-is-kept-of.true)
+    elim c.if-is_kept_of.branch [
+      | then-is_kept_of+then-last-places w ↦ subst P (sym w.last-is) (
+        last_take ahead es (kept ps) m strict i r lt (sym is ∙ w.if-is_kept_of.true)
             (elim w.then-last-places.branch [
               | then-last-places-via-then-last-places v ↦ inl (omega (arith, v.if-last-places.true, entries_long ps))
               | then-last-places-via-else-last-places+then-before v ↦
-                  inr (answered ahead es r i v.key-at.result v.key-at-else-last-places.result v.before-else-last-places.result true
-                  v.key-at.ensures v.key-at-else-last-places.ensures v.before-else-last-places.ensures v.if-before.true)
+                  inr (answered ahead es r i v.key_at.result v.key_at-else-last-places.result v.before-else-last-places.result true
+                  v.key_at.ensures v.key_at-else-last-places.ensures v.before-else-last-places.ensures v.if-before.true)
             ])
             inv,
         omega arith,
       )
-      | then-is-kept-of+else-last-places+else-before w ↦ subst P (sym w.last_is) (
+      | then-is_kept_of+else-last-places+else-before w ↦ subst P (sym w.last-is) (
         last_stay ahead es (kept ps) m strict i r (omega (arith, entries_long ps, w.if-last-places.false, c.loop-i.invariant.1))
-            (answered ahead es r i w.key-at.result w.key-at-else-last-places.result w.before-else-last-places.result false
-            w.key-at.ensures w.key-at-else-last-places.ensures w.before-else-last-places.ensures w.if-before.false)
+            (answered ahead es r i w.key_at.result w.key_at-else-last-places.result w.before-else-last-places.result false
+            w.key_at.ensures w.key_at-else-last-places.ensures w.before-else-last-places.ensures w.if-before.false)
             inv,
         c.loop-i.invariant.1,
       )
-      | else-is-kept-of w ↦ subst P (sym w.last_is) (last_skip ahead es (kept ps) m i r (sym is ∙ w.if-is-kept-of.false) inv, c.loop-i.invariant.1)
+      | else-is_kept_of w ↦ subst P (sym w.last-is) (last_skip ahead es (kept ps) m i r (sym is ∙ w.if-is_kept_of.false) inv, c.loop-i.invariant.1)
     ]
 
 pub returns : goal.returns

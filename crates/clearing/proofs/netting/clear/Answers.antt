@@ -1,4 +1,4 @@
-use Rattle.std.proofs.Common.{◌≡◌, ℕ, min, List, ◌++◌, length, take, drop, sym, subst₂, arith}
+use Rattle.std.proofs.Common.{◌≡◌, min, List, length, sym, subst₂, arith}
 use Rattle.std.proofs.lemmas.List.{length-take-le}
 use Rattle.clearing.specs.Table.{Cleared, cover_of}
 use Rattle.clearing.specs.declared.place.Place.{Place}
@@ -9,11 +9,11 @@ pub returns : goal.returns
 returns g c =
     let ps = c.args.places.now in
     let k = min c.args.held 4096 in
-    let n = c.front-len-n.result in
-    let qs = c.clear-all.new.places in
-    let long : length qs ≡ n = omega (arith, length-take-le n ps (omega (arith, c.front-len-n.ensures))) in
+    let n = c.front_len-n.result in
+    let qs = c.clear_all.new.places in
+    let long : length qs ≡ n = omega (arith, length-take-le n ps (omega (arith, c.front_len-n.ensures))) in
     record {
-      cleared = subst₂ (λ (old new : List Place). Cleared (g.R.Ranking.ahead c.args.rule.now) (cover_of c.args.covers.now) old new c.clear-all.result)
-          (take_within k n ps c.front-len-n.ensures) (sym (front_is k n ps c.front-len-n.ensures qs long)) c.clear-all.ensures;
-      behind = behind_is k n ps c.front-len-n.ensures qs long;
+      cleared = subst₂ (λ (old new : List Place). Cleared (g.R.Ranking.ahead c.args.rule.now) (cover_of c.args.covers.now) old new c.clear_all.result)
+          (take_within k n ps c.front_len-n.ensures) (sym (front_is k n ps c.front_len-n.ensures qs long)) c.clear_all.ensures;
+      behind = behind_is k n ps c.front_len-n.ensures qs long;
     }

@@ -1,4 +1,4 @@
-use Rattle.std.proofs.Common.{◌≡◌, ℕ, ◌+◌, ◌<◌, ◌≤◌, List, sym, subst}
+use Rattle.std.proofs.Common.{ℕ, ◌+◌, ◌<◌, ◌≤◌, List, sym, subst}
 use Rattle.clearing.specs.Choices.{paid, received}
 use Rattle.clearing.specs.Table.{cover_on_roll, entries, front, kept}
 use Rattle.clearing.specs.declared.entry.Entry.{Entry}

@@ -1,11 +1,10 @@
-use Rattle.std.proofs.Common.{◌≡◌, ℕ, ◌+◌, ◌<◌, ◌≤◌, Bool, true, false, ◌≢◌, List, length, get_or, set, sym, refl, ap, ◌∙◌, inl, inr, arith, length-set, rules, below_more}
-use lib.ListN.{get_or-replicate}
+use Rattle.std.proofs.Common.{◌≡◌, ℕ, ◌+◌, ◌<◌, ◌≢◌, List, length, get_or, set, sym, refl, ap, ◌∙◌, inl, inr, arith, length-set, rules, below_more}
 use Rattle.std.proofs.lemmas.Bool.{cases_lt}
 use Rattle.clearing.specs.Choices.{up_to, entry_at, live, is_live, share, is_on, payer_of, receiver_of, total}
-use Rattle.clearing.specs.Table.{entries, kept, cover_of}
+use Rattle.clearing.specs.Table.{entries, cover_of}
 use Rattle.clearing.specs.declared.entry.Entry.{Entry}
 use Rattle.clearing.proofs.Amounts.{all_zero}
-use Rattle.clearing.proofs.Marks.{entry_is, entries_long, entries_set, kept_here, kept_there, kept_past, live_past, payers, receivers, worths}
+use Rattle.clearing.proofs.Marks.{entry_is, entries_long, entries_set, kept_here, kept_there, kept_past, live_past, worths}
 use Rattle.clearing.proofs.Shares.{sum_le, tally_more, tally_skip}
 use Rattle.clearing.proofs.Sums.{up_to_none}
 use Rattle.clearing.proofs.netting.keep_live.Goals as goal
@@ -22,16 +21,16 @@ loop-i-init c =
       λ m h. omega (arith, up_to_none (share (is_on receiver_of m) es (live es))),
     )
 
-pub overflow_add_due : goal.overflow_add_due
-overflow_add_due c =
+pub overflow_add-due : goal.overflow_add-due
+overflow_add-due c =
     let ps = c.args.places.now in
     let es = entries ps in
     let i = c.loop-i.i in
     let x = get_or c.loop-i.places i c.index-places-i.result in
     search (rules, sum_le (is_on payer_of x.entry.payer) es (live es) i (worths ps), c.loop-i.invariant.4 x.entry.payer x.pays, x.limited)
 
-pub overflow_add_funds : goal.overflow_add_funds
-overflow_add_funds c =
+pub overflow_add-funds : goal.overflow_add-funds
+overflow_add-funds c =
     let ps = c.args.places.now in
     let es = entries ps in
     let i = c.loop-i.i in
@@ -46,7 +45,7 @@ loop-i-preserved c =
     let inv = c.loop-i.invariant in
     let lt : i < length now = omega arith in
     let here : (get_or now i c.index-places-i.result).entry ≡ entry_at es i = sym (entry_is now i c.index-places-i.result lt) ∙ ap (λ (l : List Entry). entry_at l i) inv.2 in
-    let is : c.is-live-live.result ≡ live es i = c.is-live-live.ensures ∙ ap is_live here in (
+    let is : c.is_live-live.result ≡ live es i = c.is_live-live.ensures ∙ ap is_live here in (
       elim c.if-live.branch [
         | then-live w ↦ ap length w.due-is ∙ length-set _ _ _ ∙ inv.0
         | else-live w ↦ ap length w.due-is ∙ inv.0

@@ -1,17 +1,15 @@
-use Rattle.std.proofs.Common.{◌≡◌, ℕ, ◌-◌, ◌≤◌, get_or, set, sym, refl, ap, subst}
-use Rattle.clearing.specs.Choices.{entry_at}
-use Rattle.clearing.specs.Table.{entries}
+use Rattle.std.proofs.Common.{◌-◌, ◌≤◌, get_or, set, sym, refl, ap, subst}
 use Rattle.clearing.specs.declared.entry.Entry.{Entry}
 use Rattle.clearing.proofs.Marks.{entry_is, entries_set, marks_set}
 use Rattle.clearing.proofs.netting.withdraw.Goals as goal
 
-pub overflow_sub_balances : goal.overflow_sub_balances
-overflow_sub_balances c =
+pub overflow_sub-balances : goal.overflow_sub-balances
+overflow_sub-balances c =
     let ps = c.args.places.now in
     subst (λ (e : Entry). e.worth ≤ get_or c.args.balances.now.due e.payer 0) (entry_is ps c.args.at c.index-places-at.result c.requires.within) c.requires.paid
 
-pub overflow_sub_balances_2 : goal.overflow_sub_balances_2
-overflow_sub_balances_2 c =
+pub overflow_sub-balances-2 : goal.overflow_sub-balances-2
+overflow_sub-balances-2 c =
     let ps = c.args.places.now in
     subst (λ (e : Entry). e.worth ≤ get_or c.args.balances.now.funds e.receiver 0) (entry_is ps c.args.at c.index-places-at.result c.requires.within) c.requires.received
 

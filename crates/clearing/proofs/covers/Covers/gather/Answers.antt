@@ -1,4 +1,4 @@
-use Rattle.std.proofs.Common.{◌≡◌, ℕ, ◌<◌, ◌≤◌, min, ltb, ◌≢◌, length, get_or, sym, refl, ap, ◌∙◌, inl, inr, arith, length-set, rules, below_more}
+use Rattle.std.proofs.Common.{◌<◌, ◌≤◌, min, ltb, ◌≢◌, length, get_or, sym, refl, ◌∙◌, inl, inr, arith, length-set, below_more}
 use Rattle.std.proofs.lemmas.List.{get_or-set_same, get_or-set_other}
 use Rattle.std.proofs.lemmas.Bool.{cases_lt, lt-ltb, le-ltb, cond-true, cond-false}
 use Rattle.clearing.proofs.Amounts.{all_zero, every_amount}
@@ -30,5 +30,5 @@ returns g c = λ m.
       | inr h ↦ c.loop-m.invariant.1 m (omega arith) ∙ sym (cond-false (ltb m (min (length roll) 64)) here 0 (le-ltb m (min (length roll) 64) h))
     ]
 
-pub invariant-of-result : goal.invariant-of-result
-invariant-of-result g c = (c.loop-m.invariant.2, tt)
+pub invariant_of-result : goal.invariant_of-result
+invariant_of-result g c = record { low = c.loop-m.invariant.2 }

@@ -1,4 +1,4 @@
-use Rattle.std.proofs.Common.{◌≡◌, ℕ, ◌+◌, ◌≤◌, length, sym, ◌∙◌, subst, subst₂, arith, length-set}
+use Rattle.std.proofs.Common.{◌≡◌, ℕ, ◌+◌, ◌≤◌, length, sym, ◌∙◌, subst, subst₂, arith}
 use Rattle.clearing.specs.Lanes.{Laned, Narrow}
 use Rattle.clearing.specs.Table.{entries, kept}
 use Rattle.clearing.specs.declared.lanes.Lanes.{Lanes}
@@ -12,8 +12,8 @@ loop-at-init g c =
     let long = c.empty-lanes.ensures.long in
     (long.0, long.1, lane_none _ _ _ c.empty-lanes.result.tops c.empty-lanes.result.below c.empty-lanes.ensures.tops, omega (arith, c.empty-lanes.ensures.widest), λ l h. c.empty-lanes.ensures.tops l)
 
-pub lane-for-requires : goal.lane-for-requires
-lane-for-requires g c = record { few = c.requires; within = c.loop-at-test.true; laned = c.loop-at.invariant.2 }
+pub lane_for-requires : goal.lane_for-requires
+lane_for-requires g c = record { few = c.requires; within = c.loop-at-test.true; laned = c.loop-at.invariant.2 }
 
 pub put-requires : goal.put-requires
 put-requires g c = (omega (arith, c.requires), omega (arith, payers c.args.places.now c.loop-at.at, c.in-Some.ensures.0.1))

@@ -4,13 +4,13 @@ use Rattle.clearing.specs.Table.{entries}
 use Rattle.clearing.proofs.Heaped.{top_le, topmost_all, topmost_one, topmost_stay, topmost_take}
 use Rattle.clearing.proofs.Marks.{entries_long}
 use Rattle.clearing.proofs.lanes.Lanes.last_lane.Goals as goal
-use Rattle.clearing.proofs.lanes.Lanes.last_lane.Goals.{then-comes-after, else-comes-after}
+use Rattle.clearing.proofs.lanes.Lanes.last_lane.Goals.{then-comes_after, else-comes_after}
 
 pub loop-lane-init : goal.loop-lane-init
 loop-lane-init g c = (topmost_one _ _ (g.met.R.Ranking.strict c.args.rule.now) c.args.self.now.tops c.args.member, refl)
 
-pub comes-after-requires : goal.comes-after-requires
-comes-after-requires g c =
+pub comes_after-requires : goal.comes_after-requires
+comes_after-requires g c =
     let strict = g.met.R.Ranking.strict c.args.rule.now in
     let long = entries_long c.args.places.now in
     let inv = c.loop-lane.invariant in
@@ -32,14 +32,14 @@ loop-lane-preserved g c =
     let l = c.loop-lane.last in
     let k = c.loop-lane.lane in
     let inv = c.loop-lane.invariant in
-    let told : c.comes-after.result ≡ comes_after ahead es (get_or tops l 0) (get_or tops k 0) = c.comes-after.ensures ∙ ap (λ (x : ℕ). comes_after ahead es x (get_or tops k 0)) inv.1 in
+    let told : c.comes_after.result ≡ comes_after ahead es (get_or tops l 0) (get_or tops k 0) = c.comes_after.ensures ∙ ap (λ (x : ℕ). comes_after ahead es x (get_or tops k 0)) inv.1 in
     let P : ℕ → ℕ → Type 0 = λ x y. Topmost ahead es tops m (k + 1) x × (y ≡ get_or tops x 0) in
-    elim c.if-comes-after.branch [
-      | then-comes-after w ↦ subst₂ P (sym w.last_is) (sym w.top-is) (
-        topmost_take _ _ strict tops m l k (omega (arith, c.loop-lane.auto.lane)) (omega (arith, c.requires.wide, c.loop-lane-test.true)) (sym told ∙ w.if-comes-after.true) inv.0,
+    elim c.if-comes_after.branch [
+      | then-comes_after w ↦ subst₂ P (sym w.last-is) (sym w.top-is) (
+        topmost_take _ _ strict tops m l k (omega (arith, c.loop-lane.auto.lane)) (omega (arith, c.requires.wide, c.loop-lane-test.true)) (sym told ∙ w.if-comes_after.true) inv.0,
         refl,
       )
-      | else-comes-after w ↦ subst₂ P (sym w.last_is) (sym w.top-is) (topmost_stay _ _ strict tops m l k (sym told ∙ w.if-comes-after.false) inv.0, inv.1)
+      | else-comes_after w ↦ subst₂ P (sym w.last-is) (sym w.top-is) (topmost_stay _ _ strict tops m l k (sym told ∙ w.if-comes_after.false) inv.0, inv.1)
     ]
 
 pub returns : goal.returns
