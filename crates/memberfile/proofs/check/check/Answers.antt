@@ -5,7 +5,7 @@ use Rattle.memberfile.proofs.Turns.{judge_long, begins, refused_at_lem, goes_on_
 use Rattle.memberfile.proofs.check.check.Goals as goal
 
 pub returns-then-bytes-gt-FILE-MOST-BYTES : goal.returns-then-bytes-gt-FILE-MOST-BYTES
-returns-then-bytes-gt-FILE-MOST-BYTES c = ap Err c.in-fields.ensures ∙ sym (ap summed (judge_long c.args.bytes.now c.if-bytes-gt-FILE-MOST-BYTES.true))
+returns-then-bytes-gt-FILE-MOST-BYTES c = ap Err c.in_fields.ensures ∙ sym (ap summed (judge_long c.args.bytes.now c.if-bytes-gt-FILE-MOST-BYTES.true))
 
 pub loop-stage-init : goal.loop-stage-init
 loop-stage-init c = (c.new-reader.ensures.bytes, c.if-bytes-gt-FILE-MOST-BYTES.false, begins c.args.bytes.now c.if-bytes-gt-FILE-MOST-BYTES.false c.new-reader.ensures.at)
