@@ -6,7 +6,7 @@ use Rattle.exactness.proofs.judged.judge_file.Goals as goal
 
 pub returns : goal.returns
 returns c =
-    let o : Octets c.args.bytes.now = octets c.args.bytes.now (λ i. omega (arith, c.type-inv.bytes i)) in
+    let o : Octets c.args.bytes.now = octets c.args.bytes.now (λ i. omega (arith, c.type_inv.bytes i)) in
     record {
       judged = c.check.ensures;
       accepted = exactly c.args.bytes.now c.check.result o c.check.ensures;

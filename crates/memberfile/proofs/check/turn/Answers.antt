@@ -8,10 +8,10 @@ use Rattle.memberfile.proofs.check.turn.Goals as goal
 pub returns : goal.returns
 returns c =
     record {
-      value = c.in-ok-moved.ensures.value ∙ ap (λ n. step_at n c.args.stage (said c.in-ok-met.met)) c.place-place.ensures.value ∙ ap (turned_by c.args.reader.now.at c.args.stage) c.in-ok-met.ensures.value;
-      after = omega (arith, c.in-ok-met.ensures.after, ap gone_by c.in-ok-met.ensures.value, gone_at_place c.args.reader.now.at (first_record (drop c.args.reader.now.at c.args.reader.now.bytes.now)));
-      far = omega (arith, c.in-ok-met.ensures.after);
-      within = c.in-ok-met.ensures.within;
-      bytes = c.in-ok-met.ensures.bytes;
-      room = room_more _ _ _ (omega (arith, c.in-ok-met.ensures.after)) (c.in-ok-moved.ensures.room c.args.reader.now.at c.requires.room);
+      value = c.in_ok-moved.ensures.value ∙ ap (λ n. step_at n c.args.stage (said c.in_ok-met.met)) c.place-place.ensures.value ∙ ap (turned_by c.args.reader.now.at c.args.stage) c.in_ok-met.ensures.value;
+      after = omega (arith, c.in_ok-met.ensures.after, ap gone_by c.in_ok-met.ensures.value, gone_at_place c.args.reader.now.at (first_record (drop c.args.reader.now.at c.args.reader.now.bytes.now)));
+      far = omega (arith, c.in_ok-met.ensures.after);
+      within = c.in_ok-met.ensures.within;
+      bytes = c.in_ok-met.ensures.bytes;
+      room = room_more _ _ _ (omega (arith, c.in_ok-met.ensures.after)) (c.in_ok-moved.ensures.room c.args.reader.now.at c.requires.room);
     }

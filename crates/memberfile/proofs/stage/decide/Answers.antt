@@ -8,7 +8,7 @@ pub returns-in-InBatch-Presentation : goal.returns-in-InBatch-Presentation
 returns-in-InBatch-Presentation c =
     let w = c.in-InBatch-Presentation in
     record {
-      value = c.take.ensures.value ∙ ap (λ p. takes w.sofar w.batch (Presentation p)) c.presentation-in.ensures ∙ sym (λ i. stepped (w.is-0 i) (said (w.is-1 i)));
+      value = c.take.ensures.value ∙ ap (λ p. takes w.sofar w.batch (Presentation p)) c.presentation_in.ensures ∙ sym (λ i. stepped (w.is-0 i) (said (w.is-1 i)));
       room = subst (λ s. IfOk c.take.result (λ m. (n : ℕ) → Room n s → Room (n + 1) m.stage)) (sym w.is-0) c.take.ensures.room;
     }
 
@@ -16,6 +16,6 @@ pub returns-in-InBatch-Return : goal.returns-in-InBatch-Return
 returns-in-InBatch-Return c =
     let w = c.in-InBatch-Return in
     record {
-      value = c.take-in-InBatch-Return.ensures.value ∙ ap (λ p. takes w.sofar w.batch (Return p)) c.return-in.ensures ∙ sym (λ i. stepped (w.is-0 i) (said (w.is-1 i)));
+      value = c.take-in-InBatch-Return.ensures.value ∙ ap (λ p. takes w.sofar w.batch (Return p)) c.return_in.ensures ∙ sym (λ i. stepped (w.is-0 i) (said (w.is-1 i)));
       room = subst (λ s. IfOk c.take-in-InBatch-Return.result (λ m. (n : ℕ) → Room n s → Room (n + 1) m.stage)) (sym w.is-0) c.take-in-InBatch-Return.ensures.room;
     }

@@ -19,7 +19,7 @@ returns c =
     let old = c.args.out.now in
     let room = bound (length old) in
     let file = opened room example_file.header in
-    let batch = c.open-batch-batch.ensures file old c.open.ensures in
+    let batch = c.open_batch-batch.ensures file old c.open.ensures in
     let filled = c.put.ensures.stands (started room file 1) old batch in
     let done = c.finish.ensures _ old (c.close.ensures _ old filled) in
     record {

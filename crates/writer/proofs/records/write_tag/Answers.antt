@@ -4,8 +4,8 @@ use Rattle.pen.proofs.Lent.{wrote_as, wrote_more}
 use Rattle.writer.proofs.Tags.{width_bytes, width_small}
 use Rattle.writer.proofs.records.write_tag.Goals as goal
 
-pub overflow_cast_width : goal.overflow_cast_width
-overflow_cast_width c = omega (arith, width_small c.args.tag, c.width.ensures)
+pub overflow_cast-width : goal.overflow_cast-width
+overflow_cast-width c = omega (arith, width_small c.args.tag, c.width.ensures)
 
 pub returns : goal.returns
 returns c =

@@ -16,10 +16,10 @@ returns c =
     let o = c.args.batch.refused in
     let out = c.args.out.now in
     let row = c.args.row in
-    let e = sym c.in-default.ensures in
+    let e = sym c.in_default.ensures in
     let a = row_free (bound (length out)) p.len p.kind row o e in
-    let w = wrote_part out (enc_row row) _ p.len (omega (arith, bound_buffer _ _ a.0, row_bytes row)) c.write-row.ensures.bytes in
+    let w = wrote_part out (enc_row row) _ p.len (omega (arith, bound_buffer _ _ a.0, row_bytes row)) c.write_row.ensures.bytes in
     record {
-      answer = λ d old s. c.in-default.ensures ∙ same_put d old out p o row s;
-      stands = λ d old s. row_put d old out _ p c.with-row.result.sofar o row _ e c.write-row.ensures.fits c.with-row.ensures w s;
+      answer = λ d old s. c.in_default.ensures ∙ same_put d old out p o row s;
+      stands = λ d old s. row_put d old out _ p c.with_row.result.sofar o row _ e c.write_row.ensures.fits c.with_row.ensures w s;
     }

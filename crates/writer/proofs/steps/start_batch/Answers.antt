@@ -12,7 +12,7 @@ returns-in-Err c d old s =
 pub returns : goal.returns
 returns c d old s =
     let p = c.args.written.sofar in
-    let e = sym c.in-default.ensures in
+    let e = sym c.in_default.ensures in
     let a = number_free (bound (length c.args.out.now)) p.len p.last c.args.number p.refused e in
-    let w = wrote_part c.args.out.now (enc_batch_head_of p.kind c.args.number) _ p.len (omega (arith, bound_buffer _ _ a.1)) c.write-batch-head.ensures in
-    batch_opened_lem d old c.args.out.now _ p c.with-batch.result.sofar c.args.number _ e (omega arith) c.with-batch.ensures w s
+    let w = wrote_part c.args.out.now (enc_batch_head_of p.kind c.args.number) _ p.len (omega (arith, bound_buffer _ _ a.1)) c.write_batch_head.ensures in
+    batch_opened_lem d old c.args.out.now _ p c.with_batch.result.sofar c.args.number _ e (omega arith) c.with_batch.ensures w s

@@ -10,9 +10,9 @@ loop-row-init c d old s = s
 
 pub loop-row-preserved : goal.loop-row-preserved
 loop-row-preserved c d old s =
-    let b = c.put-or-leave-longer.result in
+    let b = c.put_or_leave-longer.result in
     let e = put_more (bound (length old)) d c.args.rows.now c.loop-row.row-index _ c.loop-row-test.true in
-    subst (λ (v : BatchDraft). StandsIn v old c.put-or-leave-longer.new.out b.written.sofar b.refused) (sym e) (c.put-or-leave-longer.ensures _ old (c.loop-row.invariant d old s))
+    subst (λ (v : BatchDraft). StandsIn v old c.put_or_leave-longer.new.out b.written.sofar b.refused) (sym e) (c.put_or_leave-longer.ensures _ old (c.loop-row.invariant d old s))
 
 pub returns : goal.returns
 returns c d old s =

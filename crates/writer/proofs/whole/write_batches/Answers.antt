@@ -11,7 +11,7 @@ loop-batch-init c d old s = s
 pub loop-batch-preserved : goal.loop-batch-preserved
 loop-batch-preserved c d old s =
     let e = write_more (bound (length old)) d c.args.batches.now c.loop-batch.batch-index _ c.loop-batch-test.true in
-    subst (λ (v : FileDraft). Stands v old c.write-batch-longer.new.out c.write-batch-longer.result.sofar) (sym e) (c.write-batch-longer.ensures _ old (c.loop-batch.invariant d old s))
+    subst (λ (v : FileDraft). Stands v old c.write_batch-longer.new.out c.write_batch-longer.result.sofar) (sym e) (c.write_batch-longer.ensures _ old (c.loop-batch.invariant d old s))
 
 pub returns : goal.returns
 returns c d old s =

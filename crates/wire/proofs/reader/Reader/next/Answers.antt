@@ -16,7 +16,7 @@ returns-in-Ok c =
 pub returns-in-Err : goal.returns-in-Err
 returns-in-Err c =
     record {
-      value = ap Err c.in-fields.ensures ∙ ap (at_place c.args.self.now.at) (c.in-Err.ensures.value ∙ ap first_record (rest_is c.args.self.now.at c.args.self.now.bytes.now));
+      value = ap Err c.in_fields.ensures ∙ ap (at_place c.args.self.now.at) (c.in-Err.ensures.value ∙ ap first_record (rest_is c.args.self.now.at c.args.self.now.bytes.now));
       after = sym (add-zero _);
       sized = search rules;
       within = search rules;

@@ -5,4 +5,4 @@ use Rattle.writer.proofs.states.FileOpen.check_batch.Goals as goal
 pub returns : goal.returns
 returns c d old s =
     let w = c.args.self.now in
-    c.check-number.ensures ∙ same_check d old w.out.now w.written.sofar c.args.number s
+    c.check_number.ensures ∙ same_check d old w.out.now w.written.sofar c.args.number s
