@@ -1,6 +1,6 @@
 -- A computed test that a choice is the greatest: it is lawful and covered, and every other live entry falls to a list of withdrawals.
-use Rattle.std.proofs.Common.{◌≡◌, ℕ, zero, suc, ◌+◌, ◌<◌, ◌≤◌, Bool, true, false, not, ◌&&◌, ◌||◌, eqb, ltb, leb, ◌⊎◌, List, [], ◌∷◌, length, sym, refl, ap, ◌∙◌, inl, inr, arith}
-use Rattle.std.proofs.lemmas.Bool.{cases_eq, cases_lt, and_parts, and_from, or_cases, or_parts, eqb-true, eq-eqb, ne_eqb, leb-true, ltb-true, both_ways}
+use Rattle.std.proofs.Common.{◌≡◌, ℕ, zero, suc, ◌+◌, ◌<◌, Bool, true, false, not, ◌&&◌, ◌||◌, eqb, ltb, leb, List, [], ◌∷◌, length, sym, refl, ap, ◌∙◌, inl, inr, arith}
+use Rattle.std.proofs.lemmas.Bool.{cases_eq, cases_lt, and_parts, and_from, or_cases, eqb-true, eq-eqb, ne_eqb, leb-true, ltb-true, both_ways}
 use Rattle.rules.specs.Order.{Order}
 use Rattle.clearing.specs.Choices.{entry_at, key_at, live, Choice, Within, paid, received, Lawful, Covered, Greatest}
 use Rattle.clearing.specs.declared.entry.Entry.{Entry}

@@ -1,5 +1,5 @@
 -- A clearing of a case's entries settles it as the table says.
-use Rattle.std.proofs.Common.{◌≡◌, ℕ, zero, suc, ◌≤◌, min, Bool, cond, ltb, List, [], ◌∷◌, map, length, ℤ, pos, ◌-ℤ◌, sym, refl, ap, ◌∙◌, subst₂, arith}
+use Rattle.std.proofs.Common.{◌≡◌, ℕ, zero, suc, ltb, List, [], ◌∷◌, map, length, ℤ, pos, ◌-ℤ◌, sym, refl, ap, ◌∙◌, subst₂, arith}
 use Rattle.std.proofs.lemmas.List.{get_or_past}
 use Rattle.std.proofs.lemmas.Bool.{le-ltb, cond-false}
 use Rattle.rules.specs.Rankings.{any_ranking}

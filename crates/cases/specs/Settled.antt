@@ -1,5 +1,5 @@
 -- The table of cases settled by hand, and what it is for a row of it to be settled as the rules say.
-use Rattle.std.specs.Prelude.{◌≡◌, ℕ, ◌+◌, Bool, true, false, cond, ◌||◌, List, [], ◌∷◌, map, ℤ, pos, neg_ℤ, ◌==◌, slice_index}
+use Rattle.std.specs.Prelude.{◌≡◌, ℕ, ◌+◌, Bool, false, cond, ◌||◌, List, [], ◌∷◌, map, ℤ, pos, neg_ℤ, ◌==◌, slice_index}
 use Rattle.rules.specs.Rankings.{any_ranking}
 use Rattle.rules.specs.declared.rankings.AnyRanking.{AnyRanking}
 use Rattle.rules.specs.declared.rankings.AnyRanking.TheVariants.{Sending, Wages}

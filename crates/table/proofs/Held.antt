@@ -3,7 +3,7 @@ use Rattle.std.proofs.Common.{◌≡◌, ℕ, ◌+◌, ◌<◌, ◌≤◌, min, 
 use lib.Seq.{take-set-lt}
 use Rattle.std.proofs.lemmas.List.{get_or-take, length-take-le, map_push, map-set, set_past, take_more_set}
 use Rattle.clearing.specs.Choices.{entry_at}
-use Rattle.clearing.specs.Table.{entries, kept}
+use Rattle.clearing.specs.Table.{entries}
 use Rattle.clearing.specs.declared.entry.Entry.{Entry}
 use Rattle.clearing.specs.declared.place.Place.{Place}
 use Rattle.clearing.proofs.Marks.{entries_long, entry_is, kept_past, mark_is}

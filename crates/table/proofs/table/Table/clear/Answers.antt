@@ -12,18 +12,18 @@ pub returns : goal.returns
 returns g c =
     let t = c.args.self.now in
     let ws = c.clear.new.places in
-    let after = sym (with_items_is t.places ws (omega (arith, ap length c.deref-mut.ensures.value))) in
+    let after = sym (with_items_is t.places ws (omega (arith, ap length c.deref_mut.ensures.value))) in
     let old : List Place → List Place → ℕ → Type 0 = λ x y n. Cleared (g.R.Ranking.ahead c.args.rule.now) (cover_of c.args.covers.now) (take n x) (take n y) c.clear.result in
     record {
-      cleared = subst (λ n. old t.places.items (with_items t.places ws).items n) (front_held t) (subst₂ (λ x y. old x y (min t.held 4096)) c.deref-mut.ensures.value after c.clear.ensures.cleared);
+      cleared = subst (λ n. old t.places.items (with_items t.places ws).items n) (front_held t) (subst₂ (λ x y. old x y (min t.held 4096)) c.deref_mut.ensures.value after c.clear.ensures.cleared);
       capacity = refl;
     }
 
-pub invariant-of-self : goal.invariant-of-self
-invariant-of-self g c =
+pub invariant_of-self : goal.invariant_of-self
+invariant_of-self g c =
     let t = c.args.self.now in
     let qs = (with_items t.places c.clear.new.places).items in
     let front : List Place → List Entry = λ x. entries (take (min t.held 4096) x) in
-    let same = ap front (with_items_is t.places c.clear.new.places (omega (arith, ap length c.deref-mut.ensures.value))) ∙ c.clear.ensures.cleared.same ∙ ap front c.deref-mut.ensures.value in
+    let same = ap front (with_items_is t.places c.clear.new.places (omega (arith, ap length c.deref_mut.ensures.value))) ∙ c.clear.ensures.cleared.same ∙ ap front c.deref_mut.ensures.value in
     let held = subst (λ n. entries (take n qs) ≡ entries (take n t.places.items)) (front_held t) same in
-    (t.within, (omega arith, (t.small, (heads_same t qs held, (links_same t qs held, tt)))))
+    record { within = t.within; room = omega arith; small = t.small; led = heads_same t qs held; linked = links_same t qs held }

@@ -7,13 +7,13 @@ use Rattle.table.proofs.Chains.{from, last_low}
 use Rattle.table.proofs.Held.{entry_read, held_long}
 use Rattle.table.proofs.Indexed.{all_entries, chained}
 use Rattle.table.proofs.table.Table.find.Goals as goal
-use Rattle.table.proofs.table.Table.find.Goals.{then-is-record, else-is-record}
+use Rattle.table.proofs.table.Table.find.Goals.{then-is_record, else-is_record}
 
 pub loop-next-init : goal.loop-next-init
 loop-next-init c =
     let t = c.args.self.now in
     chained t c.args.origin c.args.reference t.held _ _ (omega arith)
-    (t.led c.bucket-of.result c.bucket-of.ensures.small ∙ ap (λ b. last_below (bucket_at (all_entries t)) b t.held) c.bucket-of.ensures.value)
+    (t.led c.bucket_of.result c.bucket_of.ensures.small ∙ ap (λ b. last_below (bucket_at (all_entries t)) b t.held) c.bucket_of.ensures.value)
     (sym (place_none (is_record c.args.origin c.args.reference) t.held (entries_of t) (omega (arith, held_long t))))
 
 pub loop-next-smaller : goal.loop-next-smaller
@@ -30,10 +30,10 @@ loop-next-preserved c =
     let next = c.loop-next.next in
     let at = next - 1 in
     let below : at < t.held = omega (arith, c.loop-next.invariant.0) in
-    let here = ap wanted (sym (entry_read t at c.index.result.now below c.index.ensures)) ∙ sym c.is-record.ensures in
-    let found : c.if-is-record.found ≡ from wanted es at =
-    elim c.if-is-record.branch [
-      | then-is-record w ↦ w.found-is ∙ sym (place_here wanted at es no_entry (omega (arith, held_long t)) (here ∙ w.if-is-record.true))
-      | else-is-record w ↦ w.found-is ∙ c.loop-next.invariant.2 ∙ ap (from wanted es) {y = at + 1} (omega arith) ∙ sym (place_on_lem wanted at es no_entry (omega (arith, held_long t)) (here ∙ w.if-is-record.false))
+    let here = ap wanted (sym (entry_read t at c.index.result.now below c.index.ensures)) ∙ sym c.is_record.ensures in
+    let found : c.if-is_record.found ≡ from wanted es at =
+    elim c.if-is_record.branch [
+      | then-is_record w ↦ w.found-is ∙ sym (place_here wanted at es no_entry (omega (arith, held_long t)) (here ∙ w.if-is_record.true))
+      | else-is_record w ↦ w.found-is ∙ c.loop-next.invariant.2 ∙ ap (from wanted es) {y = at + 1} (omega arith) ∙ sym (place_on_lem wanted at es no_entry (omega (arith, held_long t)) (here ∙ w.if-is_record.false))
     ] in
     chained t c.args.origin c.args.reference at _ _ (omega arith) (t.linked at below ∙ ap (λ b. last_below (bucket_at (all_entries t)) b at) (c.loop-next.invariant.1 at (omega arith))) found

@@ -10,18 +10,18 @@ pub returns-then-at-self : goal.returns-then-at-self
 returns-then-at-self c =
     let t = c.args.self.now in
     record {
-      entries = changed t c.args.at _ c.if-at-self.true ∙ ap (λ e. set (entries_of t) c.args.at (as_returned e)) (entry_read t c.args.at c.index-mut.result.now c.if-at-self.true c.index-mut.ensures.value);
+      entries = changed t c.args.at _ c.if-at-self.true ∙ ap (λ e. set (entries_of t) c.args.at (as_returned e)) (entry_read t c.args.at c.index_mut.result.now c.if-at-self.true c.index_mut.ensures.value);
       capacity = refl;
     }
 
 pub returns-else-at-self : goal.returns-else-at-self
 returns-else-at-self c = record { entries = struck_past c.args.self.now c.args.at c.if-at-self.false; capacity = refl }
 
-pub invariant-of-self : goal.invariant-of-self
-invariant-of-self c =
+pub invariant_of-self : goal.invariant_of-self
+invariant_of-self c =
     let t = c.args.self.now in
     let at = c.args.at in
-    let p = c.index-mut.result.now in
+    let p = c.index_mut.result.now in
     let lt : at < length t.places.items = omega (arith, within_items t) in
-    let keeps : own p.entry ≡ bucket_at (all_entries t) at = ap own (ap entry_of c.index-mut.ensures.value ∙ sym (entry_is t.places.items at p lt)) in
-    (t.within, (omega arith, (t.small, (heads_changed t at _ lt keeps, (links_changed t at _ lt keeps, tt)))))
+    let keeps : own p.entry ≡ bucket_at (all_entries t) at = ap own (ap entry_of c.index_mut.ensures.value ∙ sym (entry_is t.places.items at p lt)) in
+    record { within = t.within; room = omega arith; small = t.small; led = heads_changed t at _ lt keeps; linked = links_changed t at _ lt keeps }
