@@ -1,5 +1,5 @@
 -- What taking a file in may rely on behind the file check and the session's own checks.
-use Rattle.std.proofs.Common.{◌≡◌, ℕ, ◌+◌, ◌<◌, ◌≤◌, false, List, length, None, Ok, Err, sym, refl, ap, ◌∙◌, subst, arith, ltb-false}
+use Rattle.std.proofs.Common.{◌≡◌, ℕ, ◌+◌, ◌≤◌, false, List, length, None, Ok, Err, sym, refl, ap, ◌∙◌, subst, arith, ltb-false}
 use Rattle.terms.specs.declared.fault.Fault.{Fault}
 use Rattle.terms.specs.declared.file_kind.FileKind.TheVariants.{Presentations, Returns}
 use Rattle.rules.specs.Meaning.{Meaning}
@@ -10,7 +10,7 @@ use Rattle.memberfile.specs.Walk.{rows_in}
 use Rattle.memberfile.specs.declared.check.Summary.{Summary}
 use Rattle.memberfile.proofs.Summaries.{summed_err, summed_ok}
 use Rattle.memberfile.proofs.Walks.{rows_said}
-use Rattle.session.specs.Files.{Stood, admitted, after_file, answered, counted, entered_number, file_refusal, file_rules, ledger_after, sender_of, verdict, verdict_by, written}
+use Rattle.session.specs.Files.{Stood, admitted, answered, counted, entered_number, file_refusal, file_rules, ledger_after, sender_of, verdict, verdict_by, written}
 use Rattle.session.specs.Ledger.{Ledger, ledger_of, with_entries}
 use Rattle.session.specs.Rows.{after_rows, entered, outcomes}
 use Rattle.session.specs.declared.session.FileNumbers.{FileNumbers}

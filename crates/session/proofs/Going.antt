@@ -1,5 +1,5 @@
 -- What one turn of taking rows keeps.
-use Rattle.std.proofs.Common.{◌≡◌, ℕ, zero, suc, ◌+◌, ◌-◌, ◌<◌, ◌≤◌, cond, eqb, List, [], ◌∷◌, ◌++◌, length, take, drop, set, Ok, Err, Result, sym, refl, ap, ◌∙◌, subst, append_assoc, arith, length-append, length-set, take-append-drop, take-suc-set, drop-set-lt}
+use Rattle.std.proofs.Common.{◌≡◌, ℕ, suc, ◌+◌, ◌-◌, ◌<◌, ◌≤◌, cond, eqb, List, [], ◌∷◌, ◌++◌, length, take, drop, set, Ok, Err, Result, sym, refl, ap, ◌∙◌, subst, append_assoc, arith, length-append, length-set, take-append-drop, take-suc-set, drop-set-lt}
 use Rattle.terms.specs.Dockets.{Day}
 use Rattle.terms.specs.declared.refusal.Refusal.{Refusal}
 use Rattle.rules.specs.Meaning.{Meaning}
@@ -8,11 +8,10 @@ use Rattle.wire.specs.declared.row.Row.{Row}
 use Rattle.wire.specs.declared.row.Row.TheVariants.{Presentation, Return}
 use Rattle.clearing.specs.declared.entry.Entry.{Entry}
 use Rattle.clearing.specs.Choices.{entry_at}
-use Rattle.table.specs.Entries.{as_returned, struck}
+use Rattle.table.specs.Entries.{as_returned}
 use Rattle.session.specs.Files.{counted}
 use Rattle.session.specs.Rows.{after_row, after_rows, entered, entries_by, outcome_of, outcomes, presentation_taken, put_in, return_taken, row_taken, struck_in, zeros}
 use Rattle.session.specs.declared.session.Sender.{Sender}
-use Rattle.session.specs.declared.session.Taken.{Taken}
 
 pub outcome_put : (es : List Entry) (r : Result Entry Refusal) → outcome_of (put_in es r) ≡ outcome_of r
 outcome_put es (Ok e) = refl

@@ -1,5 +1,5 @@
 -- Places on the roll of a docket, and the numbers kept by them.
-use Rattle.std.proofs.Common.{◌≡◌, ℕ, ◌^◌, ◌<◌, ◌≤◌, eqb, length, Some, sym, refl, arith, length-take}
+use Rattle.std.proofs.Common.{◌≡◌, ℕ, ◌<◌, ◌≤◌, eqb, length, Some, refl, arith, length-take}
 use Rattle.terms.specs.Dockets.{roll_of}
 use Rattle.terms.specs.Rolls.{place_in}
 use Rattle.terms.specs.declared.docket.Docket.{Docket}

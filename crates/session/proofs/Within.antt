@@ -1,5 +1,5 @@
 -- Entries that are taken in are within the limits of the house, and records that are found stand there.
-use Rattle.std.proofs.Common.{◌≡◌, ℕ, ◌<◌, ◌≤◌, Bool, true, false, cond, ◌&&◌, ltb, leb, List, length, Some, None, Ok, Err, Option, Result, unwrap_or, sym, refl, ap, ◌∙◌, subst, arith, lt-ltb, le-leb}
+use Rattle.std.proofs.Common.{◌≡◌, ℕ, ◌<◌, ◌≤◌, Bool, true, false, cond, ◌&&◌, List, length, Some, None, Ok, Err, Option, Result, unwrap_or, refl, ap, subst, arith, lt-ltb, le-leb}
 use Rattle.terms.specs.Dockets.{day_of, roll_of}
 use Rattle.terms.specs.Rolls.{place_in}
 use Rattle.terms.specs.declared.docket.Docket.{Docket}

@@ -1,5 +1,5 @@
 -- A file against the session: the codes 30 to 35, what the call answers, and what it leaves.
-use Rattle.std.specs.Prelude.{◌≡◌, ℕ, ◌+◌, ◌-◌, Bool, true, false, cond, not, ◌&&◌, List, [], ◌∷◌, length, is_some, Some, None, Ok, Err, Option, Result, ◌==◌, nat_lt, slice_set}
+use Rattle.std.specs.Prelude.{◌≡◌, ℕ, ◌+◌, ◌-◌, Bool, true, false, not, ◌&&◌, List, [], ◌∷◌, length, is_some, Some, None, Ok, Err, Option, Result, ◌==◌, nat_lt, slice_set}
 use Rattle.terms.specs.Codes.{session_fault}
 use Rattle.terms.specs.Dockets.{Day}
 use Rattle.terms.specs.Numbers.{currency_number, cycle_number}
@@ -14,7 +14,7 @@ use Rattle.memberfile.specs.Judge.{Verdict, judge, summary_of}
 use Rattle.memberfile.specs.Layout.{FileValue, all_rows}
 use Rattle.memberfile.specs.declared.check.Summary.{Summary}
 use Rattle.memberfile.specs.declared.header.Header.{Header}
-use Rattle.session.specs.Ledger.{Ledger, last_number, numbers_of, place_on}
+use Rattle.session.specs.Ledger.{Ledger, last_number, place_on}
 use Rattle.session.specs.Refusals.{Rule, first_holding, rule}
 use Rattle.session.specs.Rows.{after_rows, entered, outcomes, zeros}
 use Rattle.session.specs.declared.session.Sender.{Sender}

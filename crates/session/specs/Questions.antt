@@ -1,5 +1,5 @@
 -- What the questions to a session answer.
-use Rattle.std.specs.Prelude.{ℕ, ◌-◌, Bool, cond, not, ◌&&◌, List, [], ◌∷◌, length, ℤ, is_some, Result, nat_le}
+use Rattle.std.specs.Prelude.{ℕ, ◌-◌, Bool, cond, not, ◌&&◌, [], ◌∷◌, length, ℤ, is_some, Result, nat_le}
 use Rattle.terms.specs.Dockets.{roll_of}
 use Rattle.terms.specs.Rolls.{place_in}
 use Rattle.terms.specs.declared.refusal.Refusal.{Refusal}

@@ -28,8 +28,8 @@ adds c =
     let e = simp to_z-of_z at c.positive_part-sum.ensures in
     e ∙ ap (λ (l : MemberLine). positive l.position) c.line_at-line.ensures
 
-pub overflow_add_sum : goal.overflow_add_sum
-overflow_add_sum c =
+pub overflow_add-sum : goal.overflow_add-sum
+overflow_add-sum c =
     let s = c.args.session.now in
     let m = c.loop-m.m in
     omega (arith, adds c, position_low s m, sum_low s m, c.loop-m.invariant.1, c.loop-m-test.true, c.members_in-m-end.ensures.few)

@@ -1,4 +1,4 @@
-use Rattle.std.proofs.Common.{◌≡◌, length, Ok, Err, sym, refl, ap, ◌∙◌, arith}
+use Rattle.std.proofs.Common.{length, Ok, Err, refl, ap, ◌∙◌, arith}
 use Rattle.std.proofs.lemmas.Result.{err_from_is_err_and}
 use Rattle.memberfile.specs.Walk.{rows_in}
 use Rattle.wire.specs.Rows.{presented}
@@ -15,7 +15,7 @@ returns-in_err-summary g c =
     let m = g.I.Instrument.meaning c.args.instrument.now in
     let bs = c.args.file.now in
     let n = length c.args.out.now in
-    let p = err_from_is_err_and c.from-residual.result c.from-residual.ensures.1 in
+    let p = err_from_is_err_and c.from_residual.result c.from_residual.ensures.1 in
     let v = unchecked l m bs n c.in_err-summary.field-0.0 c.in_err-summary.ensures in
     record {
       answer = p.1 ∙ ap Err p.2 ∙ refused_answer l m bs n _ v;
@@ -31,7 +31,7 @@ returns-in_err-sender g c =
     let m = g.I.Instrument.meaning c.args.instrument.now in
     let bs = c.args.file.now in
     let n = length c.args.out.now in
-    let p = err_from_is_err_and c.from-residual-in_err-sender.result c.from-residual-in_err-sender.ensures.1 in
+    let p = err_from_is_err_and c.from_residual-in_err-sender.result c.from_residual-in_err-sender.ensures.1 in
     let v = unadmitted l m bs n c.in_ok-summary.summary _ c.in_ok-summary.ensures c.in_err-sender.ensures.sender in
     record {
       answer = p.1 ∙ ap Err p.2 ∙ refused_answer l m bs n _ v;

@@ -1,14 +1,13 @@
-use Rattle.std.proofs.Common.{◌≡◌, ◌+◌, ◌<◌, not, ◌&&◌, eqb, get_or, is_some, Ok, unwrap_or, sym, ap, ◌∙◌, arith, le-ltb}
+use Rattle.std.proofs.Common.{◌≡◌, ◌+◌, not, ◌&&◌, eqb, get_or, is_some, Ok, unwrap_or, sym, ap, ◌∙◌, arith, le-ltb}
 use Rattle.session.specs.Files.{file_rules, is_returns, sender_of}
 use Rattle.session.specs.Ledger.{last_number, ledger_of}
 use Rattle.session.specs.Refusals.{unless}
-use Rattle.session.specs.declared.session.Sender.{Sender}
 use Rattle.session.proofs.Orders.{none_hold}
 use Rattle.session.proofs.Rolls.{numbers_same, place_low}
 use Rattle.session.proofs.session.Session.judge_file.Goals as goal
 
-pub overflow_cast_place : goal.overflow_cast_place
-overflow_cast_place g c = let l = place_low c.args.self.now.docket c.args.file.header.origin c.in-Some.place (sym c.in-Some.ensures) in omega arith
+pub overflow_cast-place : goal.overflow_cast-place
+overflow_cast-place g c = let l = place_low c.args.self.now.docket c.args.file.header.origin c.in-Some.place (sym c.in-Some.ensures) in omega arith
 
 pub last-requires : goal.last-requires
 last-requires g c = place_low c.args.self.now.docket c.args.file.header.origin c.in-Some.place (sym c.in-Some.ensures)

@@ -1,5 +1,4 @@
-use Rattle.std.proofs.Common.{◌≡◌, true, cond, ◌&&◌, List, [], ◌∷◌, ◌++◌, length, sym, refl, ap, ◌∙◌, arith, lt-ltb}
-use Rattle.clearing.specs.declared.entry.Entry.{Entry}
+use Rattle.std.proofs.Common.{◌≡◌, true, cond, ◌&&◌, [], ◌∷◌, ◌++◌, length, sym, ap, ◌∙◌, lt-ltb}
 use Rattle.table.specs.Entries.{entries_of}
 use Rattle.session.specs.Ledger.{Ledger, ledger_of, with_entries}
 use Rattle.session.specs.Rows.{entries_by, outcome_of, put_in}

@@ -1,7 +1,7 @@
-use Rattle.std.proofs.Common.{◌≡◌, ℕ, ◌+◌, cond, sym, ap, ◌∙◌, arith, eq-eqb, ne_eqb}
+use Rattle.std.proofs.Common.{ℕ, ◌+◌, cond, sym, ap, ◌∙◌, arith, eq-eqb, ne_eqb}
 use Rattle.session.specs.Ledger.{ledger_of, with_entries}
 use Rattle.session.specs.Rows.{after_row, outcome_of, row_taken}
-use Rattle.session.proofs.Going.{can_take, comes_out, counts_out, entries_out, enters}
+use Rattle.session.proofs.Going.{comes_out, counts_out, entries_out, enters}
 use Rattle.session.proofs.session.Session.take_rows.Goals as goal
 
 pub loop-row-preserved-then-outcome-eq0 : goal.loop-row-preserved-then-outcome-eq0
