@@ -1,5 +1,5 @@
 -- Every entry of a book is between two places on its roll.
-use Rattle.std.proofs.Common.{◌≡◌, ℕ, zero, suc, ◌<◌, Bool, true, false, cond, not, ◌||◌, eqb, List, [], ◌∷◌, ◌++◌, length, is_some, Some, None, Ok, Err, fold, Option, Result, unwrap_or, sym, refl, ap, ◌∙◌, subst, arith}
+use Rattle.std.proofs.Common.{◌≡◌, ℕ, zero, suc, ◌<◌, Bool, true, false, cond, not, ◌||◌, eqb, List, [], ◌∷◌, ◌++◌, length, is_some, Some, None, Ok, Err, fold, Option, Result, unwrap_or, refl, ◌∙◌, subst, arith}
 use Rattle.terms.specs.Dockets.{Day}
 use Rattle.terms.specs.Rolls.{place_in}
 use Rattle.terms.specs.declared.fault.Fault.{Fault}

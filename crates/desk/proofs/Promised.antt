@@ -1,25 +1,24 @@
 -- A session that stands as its calls left it keeps the promise.
-use Rattle.std.proofs.Common.{◌≡◌, ℕ, ◌+◌, ◌<◌, ◌≤◌, Bool, true, false, cond, not, ◌⊎◌, List, [], ◌∷◌, ◌++◌, length, pos, Ok, Err, fold, Result, sym, refl, ap, ◌∙◌, subst, inl, inr, arith}
+use Rattle.std.proofs.Common.{◌≡◌, ℕ, Bool, true, false, cond, not, ◌⊎◌, List, [], ◌∷◌, ◌++◌, length, Ok, Err, fold, Result, sym, refl, ap, ◌∙◌, subst, inl, inr, arith}
 use mathlib.Core.Path.{fun_ext}
 use Rattle.terms.specs.Dockets.{Day}
 use Rattle.terms.specs.declared.fault.Fault.{Fault}
 use Rattle.rules.specs.Meaning.{Meaning}
 use Rattle.rules.specs.Order.{Order}
 use Rattle.memberfile.specs.Layout.{FileValue}
-use Rattle.clearing.specs.Choices.{Choice, Covered, Greatest, Lawful, Within, entry_at, live}
-use Rattle.clearing.specs.Positions.{signed_up_to}
+use Rattle.clearing.specs.Choices.{Choice, Covered, Greatest, Lawful, Within, entry_at}
 use Rattle.clearing.specs.declared.entry.Entry.{Entry}
 use Rattle.clearing.proofs.Grown.{grows as grown}
 use Rattle.clearing.proofs.Pairs.{cancel_on}
 use Rattle.table.specs.Entries.{entries_of, kept_of}
 use Rattle.session.specs.Files.{verdict}
 use Rattle.session.specs.Ledger.{Ledger}
-use Rattle.session.specs.Questions.{mark_of, position_at}
+use Rattle.session.specs.Questions.{mark_of}
 use Rattle.session.specs.Settled.{Settled}
 use Rattle.session.specs.declared.session.Session.{Session}
 use Rattle.session.specs.declared.session.mark.Mark.{Mark}
 use Rattle.session.specs.declared.session.mark.Mark.TheVariants.{Unmarked, Kept, Withdrawn, Returned}
-use Rattle.desk.specs.Books.{Book, Calm, Meant, RefusedFile, State, after, after_sent, IsCalm, clears, fresh, run, sends, settled, unsettled}
+use Rattle.desk.specs.Books.{Book, Calm, Meant, RefusedFile, State, after, after_sent, IsCalm, clears, fresh, run, sends, settled}
 use Rattle.desk.specs.Promises.{Best, Grows, Promise, Sound, is_kept, kept_in}
 use Rattle.desk.specs.Stands.{Bears, Keeps, Stands}
 use Rattle.desk.proofs.OnRoll.{AllOn, day_run, on_at, on_run}

@@ -1,5 +1,5 @@
 -- One call upon a session does what its book says.
-use Rattle.std.proofs.Common.{◌≡◌, ℕ, Bool, true, false, List, Ok, Err, Result, sym, refl, ap, ◌∙◌, subst}
+use Rattle.std.proofs.Common.{◌≡◌, ℕ, List, Ok, Err, Result, sym, ap, ◌∙◌, subst}
 use Rattle.terms.specs.Dockets.{roll_of}
 use Rattle.terms.specs.declared.fault.Fault.{Fault}
 use Rattle.rules.specs.Meaning.{Meaning}

@@ -11,7 +11,7 @@ use Rattle.session.specs.Questions.{mark_of, position_at}
 use Rattle.session.specs.declared.session.Session.{Session}
 use Rattle.session.specs.declared.session.mark.Mark.{Mark}
 use Rattle.session.specs.declared.session.mark.Mark.TheVariants.{Unmarked, Kept, Withdrawn, Returned}
-use Rattle.desk.specs.Books.{Book, Calm, Meant, run, settled, unsettled}
+use Rattle.desk.specs.Books.{Calm, Meant, run, settled, unsettled}
 use Rattle.desk.specs.Stands.{Stands}
 
 abbrev pub is_kept : Mark → Bool

@@ -1,4 +1,4 @@
-use Rattle.std.proofs.Common.{◌≡◌, length, sym, refl, ap, ◌∙◌, subst}
+use Rattle.std.proofs.Common.{length, sym, ap, ◌∙◌, subst}
 use Rattle.session.specs.Ledger.{ledger_of}
 use Rattle.desk.specs.Books.{Meant, run}
 use Rattle.desk.specs.Calls.{left_in, meaning}

@@ -1,8 +1,7 @@
-use Rattle.std.proofs.Common.{◌≡◌, ℕ, ◌+◌, ◌<◌, ◌≤◌, min, List, [], ◌∷◌, ◌++◌, map, length, get_or, take, drop, set, vec_len, sym, refl, ap, ◌∙◌, subst, subst₂, arith}
+use Rattle.std.proofs.Common.{◌≡◌, ℕ, ◌+◌, ◌<◌, min, List, [], ◌∷◌, ◌++◌, map, length, take, drop, vec_len, sym, refl, ap, ◌∙◌, subst, subst₂, arith}
 use Rattle.std.proofs.lemmas.List.{map_more, take_more_set, drop-set-lt, drop-drop}
 use Rattle.terms.specs.Dockets.{Day, day_of}
 use Rattle.session.specs.Ledger.{Ledger, opened}
-use Rattle.session.specs.declared.session.Session.{Session}
 use Rattle.desk.specs.Books.{Meant, Told, fresh, run}
 use Rattle.desk.specs.Calls.{left_by, left_in, meaning}
 use Rattle.desk.specs.Stands.{Does, Stands}
