@@ -1,5 +1,5 @@
 -- A result says what the questions answer.
-use Rattle.std.proofs.Common.{◌≡◌, ℕ, zero, suc, ◌+◌, ◌<◌, ◌≤◌, Bool, true, false, cond, not, ◌&&◌, eqb, List, [], ◌∷◌, length, get_or, drop, is_some, Some, Ok, unwrap_or, sym, refl, ap, ◌∙◌, inl, inr, add-one, arith, length-append, length-take, get_or-take, eq-eqb, ne_eqb}
+use Rattle.std.proofs.Common.{◌≡◌, ℕ, zero, suc, ◌<◌, ◌≤◌, Bool, true, false, cond, not, ◌&&◌, eqb, [], ◌∷◌, length, get_or, drop, is_some, Some, unwrap_or, sym, refl, ap, ◌∙◌, inl, inr, add-one, arith, length-append, length-take, get_or-take, eq-eqb, ne_eqb}
 use Rattle.std.proofs.lemmas.Bool.{cases_lt}
 use Rattle.terms.specs.Dockets.{roll_of}
 use Rattle.terms.specs.Rolls.{first_place, place_in}
@@ -8,7 +8,6 @@ use Rattle.terms.specs.declared.refusal.Refusal.TheVariants.{NotCleared, NotList
 use Rattle.terms.proofs.Places.{behind, place_here, place_on_lem, place_start}
 use Rattle.clearing.specs.Choices.{entry_at, left_out, size, up_to}
 use Rattle.clearing.specs.Table.{cover_of}
-use Rattle.clearing.specs.declared.entry.Entry.{Entry}
 use Rattle.clearing.specs.declared.sheet.Sheet.{Sheet}
 use Rattle.clearing.proofs.Sums.{up_to_more, up_to_none}
 use Rattle.table.specs.Entries.{entries_of, kept_of}
@@ -17,7 +16,7 @@ use Rattle.session.specs.Refusals.{first_holding, rule, unless}
 use Rattle.session.specs.declared.session.Session.{Session}
 use Rattle.session.specs.declared.session.mark.Mark.TheVariants.{Unmarked, Kept, Withdrawn, Returned}
 use Rattle.result.specs.Agreement.{Agrees}
-use Rattle.result.specs.Value.{is_withdrawn, line_at, withdrawn_at, withdrawn_of, withdrawn_up_to}
+use Rattle.result.specs.Value.{is_withdrawn, withdrawn_at, withdrawn_of, withdrawn_up_to}
 use Rattle.result.proofs.Gathering.{gathered_more, gathered_none}
 
 module _ (d : Docket) where

@@ -1,5 +1,5 @@
 -- Positions: two's complement, and the sum of the positive ones.
-use Rattle.std.proofs.Common.{◌≡◌, ℕ, zero, suc, ◌+◌, ◌-◌, ◌*◌, ◌%◌, ◌^◌, ◌<◌, ◌≤◌, Bool, true, false, cond, ltb, List, [], ◌∷◌, ◌++◌, length, ℤ, pos, negsuc, ◌-ℤ◌, sym, refl, ap, ◌∙◌, add_assoc, zero-add, add-one, arith, w64, SFits, of_z}
+use Rattle.std.proofs.Common.{◌≡◌, ℕ, zero, suc, ◌+◌, ◌-◌, ◌*◌, ◌^◌, ◌<◌, ◌≤◌, true, false, cond, ltb, List, [], ◌∷◌, ◌++◌, length, ℤ, pos, negsuc, ◌-ℤ◌, sym, ap, ◌∙◌, add_assoc, zero-add, add-one, arith, w64, SFits, of_z}
 use Rattle.clearing.specs.Choices.{is_on, paid, received, receiver_of, total}
 use Rattle.clearing.proofs.Marks.{worths}
 use Rattle.clearing.proofs.Shares.{sum_le}
@@ -7,7 +7,6 @@ use Rattle.table.specs.Entries.{entries_of, held_places, kept_of}
 use Rattle.table.proofs.Held.{held_long}
 use Rattle.session.specs.Questions.{position_at}
 use Rattle.session.specs.declared.session.Session.{Session}
-use Rattle.result.specs.Gathered.{gathered}
 use Rattle.result.specs.Layout.{positive, positive_sum, twos}
 use Rattle.result.specs.Value.{line_at, lines_up_to}
 use Rattle.result.specs.declared.member_line.MemberLine.{MemberLine}

@@ -1,12 +1,12 @@
 -- Records written one behind another, place by place.
-use Rattle.std.proofs.Common.{◌≡◌, ℕ, ◌+◌, ◌*◌, ◌<◌, ◌≤◌, List, [], ◌∷◌, ◌++◌, length, take, drop, sym, refl, ap, ◌∙◌, subst, append-nil, arith, length-append, take-append-drop}
+use Rattle.std.proofs.Common.{◌≡◌, ℕ, ◌+◌, ◌*◌, ◌≤◌, List, [], ◌∷◌, ◌++◌, length, take, drop, sym, refl, ap, ◌∙◌, subst, append-nil, arith, take-append-drop}
 use Rattle.clearing.specs.declared.entry.Entry.{Entry}
 use Rattle.terms.specs.declared.currency.Currency.{Currency}
 use Rattle.terms.specs.declared.cycle.Cycle.{Cycle}
-use Rattle.pen.specs.Buffer.{written, Wrote, fronted}
+use Rattle.pen.specs.Buffer.{written, Wrote}
 use Rattle.pen.proofs.Lent.{wrote_as, wrote_more}
 use Rattle.result.specs.Gathered.{gathered, each_of}
-use Rattle.result.specs.Layout.{ResultValue, enc_header, enc_member, enc_totals, enc_withdrawn, encode_result}
+use Rattle.result.specs.Layout.{enc_header, enc_member, enc_totals, enc_withdrawn}
 use Rattle.result.specs.declared.member_line.MemberLine.{MemberLine}
 use Rattle.result.proofs.Gathering.{each_length, each_more, gathered_none}
 

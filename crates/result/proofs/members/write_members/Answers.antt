@@ -1,7 +1,7 @@
 use Rattle.std.proofs.Common.{◌≡◌, [], ◌∷◌, sym, ap, ◌∙◌, arith, w64, SFits, rules}
 use Rattle.std.proofs.lemmas.Int.{to_z-of_z}
 use Rattle.session.specs.Questions.{position_at}
-use Rattle.result.specs.Layout.{enc_member, positive, positive_sum}
+use Rattle.result.specs.Layout.{enc_member, positive}
 use Rattle.result.specs.Value.{line_at, lines_up_to}
 use Rattle.result.specs.declared.member_line.MemberLine.{MemberLine}
 use Rattle.result.proofs.Gathering.{gathered_ones}
