@@ -106,8 +106,8 @@ step_on s g t v rest m V l e st next n (suc k) h =
     let bs : List ℕ = enc_record t v ++ rest in
     let fr : first_record bs ≡ Ok (piece t v) = first_written t v rest l in
     let far : gone bs ≡ 3 + length v = ap gone_by fr in
-    let far-end : n + gone bs + length rest ≡ n + length bs = omega (arith, length-append v rest) in
-    run_on k s g n bs m e (ap (λ r. turned_by n s (at_place n r)) fr ∙ ap (step_placed n) st) ∙ ap (λ x. run k m.stage (logged s m g) (n + gone bs) x) (drop_at (enc_record t v) rest (gone bs) (omega arith)) ∙ next (n + gone bs) k (omega (arith, length-append v rest)) ∙ ap V far-end
+    let far_end : n + gone bs + length rest ≡ n + length bs = omega (arith, length-append v rest) in
+    run_on k s g n bs m e (ap (λ r. turned_by n s (at_place n r)) fr ∙ ap (step_placed n) st) ∙ ap (λ x. run k m.stage (logged s m g) (n + gone bs) x) (drop_at (enc_record t v) rest (gone bs) (omega arith)) ∙ next (n + gone bs) k (omega (arith, length-append v rest)) ∙ ap V far_end
 
 pub gets_at : (s : Stage) (g : Log) (V : ℕ → Verdict) (xs ys : List ℕ) → xs ≡ ys → Gets s g xs V → Gets s g ys V
 gets_at s g V xs ys e h = subst (λ l. Gets s g l V) e h

@@ -27,7 +27,7 @@ octet_at [] i o = omega arith
 octet_at (b ∷ v) zero o = o.0
 octet_at (b ∷ v) (suc i) o = octet_at v i o.1
 
--- one field, and what is behind_head it
+-- one field, and what is behind it
 peel : (w i : ℕ) (v x : List ℕ) → Octets v → i + w ≤ length v → x ≡ drop (i + w) v → in_bytes w (field v i w) ++ x ≡ drop i v
 peel w i v x o l e =
     let d : List ℕ = drop i v in
@@ -121,11 +121,11 @@ read_head b a d vs p o e =
     let small : width t ≤ 24 = width_small t in
     let long : length (take n vs) ≡ n = length-take-le n vs h.3 in
     let zero_is : a ≡ 0 = omega (arith, h.2) in
-    let low-is : d ≡ width t = omega (arith, h.2) in
+    let low_is : d ≡ width t = omega (arith, h.2) in
     let far : gone (b ∷ a ∷ d ∷ vs) ≡ 3 + n = ap gone_by e ∙ ap (λ q. 3 + length q.value) h.4 ∙ ap (λ k. 3 + k) long in
     let at : Read (b ∷ a ∷ d ∷ vs) (piece t (take n vs)) = record {
       rest = drop n vs;
-      wrote = λ i. tag_byte_lem b t h.1 i ∷ zero_is i ∷ low-is i ∷ sym (take-append-drop n vs) i;
+      wrote = λ i. tag_byte_lem b t h.1 i ∷ zero_is i ∷ low_is i ∷ sym (take-append-drop n vs) i;
       sized = long ∙ h.2;
       value = octets_take n vs o.1.1.1;
       more = octets_drop n vs o.1.1.1;

@@ -1,4 +1,4 @@
--- What is refused breaks the rule that is said, behind_head what stands in order.
+-- What is refused breaks the rule that is said, behind what stands in order.
 use Rattle.std.proofs.Common.{◌≡◌, ℕ, zero, suc, ◌+◌, ◌*◌, ◌<◌, ◌≤◌, Bool, true, false, cond, ◌&&◌, eqb, ltb, leb, ◌⊎◌, List, [], ◌∷◌, ◌++◌, length, get_or, take, drop, Some, None, Ok, Err, Option, Result, sym, refl, ap, ◌∙◌, subst, inl, inr, ⊎_elim, arith, length-append, ltb-true, eq-eqb, eqb-true, leb-false, leb-true}
 use Rattle.std.proofs.str.Laws.{order}
 use borrow.Author.Tests.{eqb-false, both_ways}

@@ -1,4 +1,4 @@
--- What breaks a rule, behind_head what stands in order, is refused by that rule.
+-- What breaks a rule, behind what stands in order, is refused by that rule.
 use Rattle.std.proofs.Common.{◌≡◌, ℕ, zero, suc, ◌+◌, ◌-◌, ◌<◌, ◌≤◌, Bool, true, false, ◌⊎◌, List, [], ◌∷◌, ◌++◌, length, None, Ok, Err, Result, sym, refl, ap, ◌∙◌, subst, inl, inr, ⊎_elim, append_assoc, arith, length-append, eqb-true, leb-false}
 use Rattle.wire.specs.Bytes.{in_bytes, Octets}
 use Rattle.wire.specs.Records.{Piece, piece, width, first_record}

@@ -32,7 +32,7 @@ walked_nil : (k : ℕ) → walked k [] ≡ []
 walked_nil zero = refl
 walked_nil (suc k) = refl
 
--- how many records it may numberIn does not matter, once they are enough
+-- how many records it may take does not matter, once they are enough
 walked_enough : (j k : ℕ) (bs : List ℕ) → length bs ≤ j → length bs ≤ k → walked j bs ≡ walked k bs
 walked_enough j k [] a b = walked_nil j ∙ sym (walked_nil k)
 walked_enough zero k (x ∷ bs) a b = absurd (omega arith)

@@ -1,5 +1,5 @@
 // A whole file written in one call.
-ghost use Rattle.std.specs.Prelude.{◌≡◌, ℕ, ◌+◌, ◌-◌, ◌*◌, leb, List, map, length, if◌then◌else◌, Some, None, MatchResult, nat_le};
+ghost use Rattle.std.specs.Prelude.{◌≡◌, ℕ, ◌+◌, ◌-◌, ◌*◌, List, map, length, if◌then◌else◌, Some, None, MatchResult, nat_le};
 ghost use Rattle.writer.specs.Drafts.{BatchDraft, FileDraft, bound, drafted, extended, refusal_in};
 ghost use Rattle.writer.specs.Stands.{Done, Stands, StandsIn};
 ghost use Rattle.writer.specs.Whole.{all_of, all_put, all_written, batch_bytes, batch_of, batch_put, each_of, file_of, rises_from, whole_check};
@@ -54,7 +54,7 @@ fn batches_are_of(kind: FileKind, batches: &[BatchRows]) -> bool
 
 // How many of the bytes left a batch of so many rows leaves, if it fits.
 fn left_behind(left: usize, rows: usize) -> Option<usize>
-    ensures { result ≡ (if leb (33 + rows * 16) left then Some (left - (33 + rows * 16)) else None) }
+    ensures { result ≡ (if nat_le (33 + rows * 16) left then Some (left - (33 + rows * 16)) else None) }
 {
     if left < BATCH_HEAD_BYTES + END_BYTES {
         return None;
