@@ -1,16 +1,16 @@
 -- The encoding of a well-formed file is accepted, as that file.
-use Rattle.std.proofs.Common.{◌≡◌, ℕ, zero, suc, ◌+◌, ◌-◌, ◌*◌, ◌<◌, ◌≤◌, Bool, true, false, cond, ◌&&◌, eqb, leb, List, [], ◌∷◌, ◌++◌, length, take, drop, Some, None, Ok, Err, Result, sym, refl, ap, ◌∙◌, subst, append_assoc, append-nil, arith, length-append, eq-eqb}
+use Rattle.std.proofs.Common.{◌≡◌, ℕ, zero, suc, ◌+◌, ◌*◌, ◌<◌, true, cond, ◌&&◌, eqb, leb, List, [], ◌∷◌, ◌++◌, length, Some, None, Ok, Err, Result, sym, refl, ap, ◌∙◌, subst, append_assoc, append-nil, arith, length-append, eq-eqb}
 use borrow.Author.Tests.{lt-leb}
 use Rattle.std.proofs.lemmas.List.{take_at, drop_at}
-use Rattle.wire.specs.Bytes.{number_in, in_bytes}
-use Rattle.wire.specs.Records.{first_record, at_place, Piece, piece, width, tag_byte, tag_of}
+use Rattle.wire.specs.Bytes.{in_bytes}
+use Rattle.wire.specs.Records.{first_record, at_place, piece, width, tag_byte, tag_of}
 use Rattle.wire.specs.Values.{raw_header_in, batch_head_in, presentation_in, return_in, closing_in}
 use Rattle.terms.specs.Numbers.{batch_kind}
-use Rattle.wire.specs.Rows.{is_of, no_totals, plus, presentations, presented, same_totals, tally}
+use Rattle.wire.specs.Rows.{is_of, no_totals, plus, presentations, same_totals, tally}
 use Rattle.memberfile.specs.Headers.{header_of, raw_of}
 use Rattle.memberfile.specs.Stages.{begun, fresh, goes, goes_to, opened_by, row_in, shut_batch, step_placed, stepped, took}
 use Rattle.memberfile.specs.Layout.{BatchValue, FileValue, FitsRow, FitsTotals, Formed, FormedBatches, FormedRows, LawfulHeader, all_rows, enc_batch_end, enc_batch_head, enc_batches, enc_closing, enc_file_end, enc_file_head, enc_header, enc_presentation, enc_record, enc_return, enc_row, enc_rows, encode}
-use Rattle.memberfile.specs.Judge.{gone_by, gone, turned_by, turned, Log, blank, logged, ended, ending, judge, run, Verdict}
+use Rattle.memberfile.specs.Judge.{gone_by, gone, turned_by, Log, blank, logged, ending, judge, run, Verdict}
 use Rattle.memberfile.specs.declared.header.Header.{Header}
 use Rattle.wire.specs.declared.values.BatchHead.{BatchHead}
 use Rattle.wire.specs.declared.values.Totals.{Totals}
@@ -20,7 +20,7 @@ use Rattle.wire.specs.declared.values.Return.{Return as ReturnV}
 use Rattle.wire.specs.declared.record.Tag.{Tag}
 use Rattle.wire.specs.declared.record.Tag.TheVariants.{FileHeader, BatchHeader, Presentation as t_presentation, Return as t_return, BatchEnd, FileEnd}
 use Rattle.terms.specs.declared.refusal.Refusal.{Refusal}
-use Rattle.terms.specs.declared.refusal.Refusal.TheVariants.{OutOfOrder, WrongKind, BatchNumber, TotalDiffers, HeaderValue}
+use Rattle.terms.specs.declared.refusal.Refusal.TheVariants.{WrongKind, BatchNumber, TotalDiffers}
 use Rattle.wire.specs.declared.row.Row.{Row}
 use Rattle.wire.specs.declared.row.Row.TheVariants.{Presentation, Return}
 use Rattle.memberfile.specs.declared.stage.Sofar.{Sofar}
@@ -28,7 +28,7 @@ use Rattle.memberfile.specs.declared.stage.OpenBatch.{OpenBatch}
 use Rattle.memberfile.specs.declared.stage.Stage.{Stage}
 use Rattle.memberfile.specs.declared.stage.Stage.TheVariants.{BeforeHeader, Between, InBatch, AfterEnd}
 use Rattle.memberfile.specs.declared.stage.Moved.{Moved}
-use Rattle.wire.proofs.Codes.{length_in_bytes, number_in_bytes}
+use Rattle.wire.proofs.Codes.{number_in_bytes}
 use Rattle.wire.proofs.Heads.{behind_head_ok}
 use Rattle.exactness.proofs.Headers.{fits_header, header_back}
 use Rattle.memberfile.proofs.Turns.{run_on, judge_short}

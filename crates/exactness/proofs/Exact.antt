@@ -1,8 +1,7 @@
-use Rattle.std.proofs.Common.{◌≡◌, ℕ, suc, ◌<◌, List, [], ◌∷◌, get_or, Ok, Err, Result, sym, refl, ap, ◌∙◌, arith}
+use Rattle.std.proofs.Common.{◌≡◌, ℕ, suc, ◌<◌, List, [], ◌∷◌, get_or, Ok, Err, Result, ap, arith}
 use Rattle.wire.specs.Bytes.{Octets}
-use Rattle.memberfile.specs.Judge.{judge, summary_of, summed, Verdict}
+use Rattle.memberfile.specs.Judge.{judge, summed}
 use Rattle.exactness.specs.Acceptance.{Exactly}
-use Rattle.memberfile.specs.Layout.{FileValue}
 use Rattle.terms.specs.declared.fault.Fault.{Fault}
 use Rattle.memberfile.specs.declared.check.Summary.{Summary}
 use Rattle.memberfile.proofs.Summaries.{summed_err, summed_ok}

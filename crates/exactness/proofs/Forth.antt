@@ -1,5 +1,5 @@
 -- Bytes that are read are what is written of the values read.
-use Rattle.std.proofs.Common.{◌≡◌, ℕ, zero, suc, ◌+◌, ◌-◌, ◌*◌, ◌^◌, ◌<◌, ◌≤◌, Bool, true, false, cond, eqb, ltb, ◌⊎◌, List, [], ◌∷◌, ◌++◌, length, get_or, take, drop, Some, None, Ok, Err, Option, Result, sym, refl, ap, ◌∙◌, subst, inl, inr, ⊎_elim, append-nil, arith, length-drop, take-append-drop, drop_of_length-le, length-take-le, take_all, drop-cons, drop-drop, ltb-false, eqb-true}
+use Rattle.std.proofs.Common.{◌≡◌, ℕ, zero, suc, ◌+◌, ◌*◌, ◌^◌, ◌<◌, ◌≤◌, Bool, true, false, cond, eqb, ltb, ◌⊎◌, List, [], ◌∷◌, ◌++◌, length, get_or, take, drop, Some, None, Ok, Err, Option, Result, sym, refl, ap, ◌∙◌, subst, inl, inr, ⊎_elim, append-nil, arith, length-drop, take-append-drop, drop_of_length-le, length-take-le, drop-cons, drop-drop, ltb-false, eqb-true}
 use Rattle.wire.specs.Bytes.{number_in, in_bytes, Octets}
 use Rattle.wire.specs.Records.{Piece, piece, width, tag_byte, tag_of, behind_head, first_record}
 use Rattle.wire.specs.Values.{field, raw_header_in, batch_head_in, presentation_in, return_in, closing_in}

@@ -1,15 +1,15 @@
 -- What is refused breaks the rule that is said, behind what stands in order.
-use Rattle.std.proofs.Common.{◌≡◌, ℕ, zero, suc, ◌+◌, ◌*◌, ◌<◌, ◌≤◌, Bool, true, false, cond, ◌&&◌, eqb, ltb, leb, ◌⊎◌, List, [], ◌∷◌, ◌++◌, length, get_or, take, drop, Some, None, Ok, Err, Option, Result, sym, refl, ap, ◌∙◌, subst, inl, inr, ⊎_elim, arith, length-append, ltb-true, eq-eqb, eqb-true, leb-false, leb-true}
+use Rattle.std.proofs.Common.{◌≡◌, ℕ, zero, suc, ◌+◌, ◌*◌, ◌<◌, ◌≤◌, Bool, true, false, cond, ◌&&◌, eqb, ltb, ◌⊎◌, List, [], ◌∷◌, ◌++◌, length, get_or, take, drop, Some, None, Ok, Err, Option, Result, sym, refl, ap, ◌∙◌, subst, inl, inr, ⊎_elim, arith, ltb-true, eq-eqb, eqb-true, leb-true}
 use Rattle.std.proofs.str.Laws.{order}
 use borrow.Author.Tests.{eqb-false, both_ways}
 use Rattle.wire.specs.Bytes.{Octets}
 use Rattle.wire.specs.Records.{Piece, piece, width, tag_byte, tag_of, behind_head, first_record, at_place}
-use Rattle.wire.specs.Values.{raw_header_in, batch_head_in, closing_in}
+use Rattle.wire.specs.Values.{raw_header_in, closing_in}
 use Rattle.wire.specs.Rows.{is_of, no_totals, same_totals, tally}
-use Rattle.memberfile.specs.Headers.{InRange, header_of}
+use Rattle.memberfile.specs.Headers.{header_of}
 use Rattle.memberfile.specs.Stages.{opened_by, step_placed, stepped}
-use Rattle.memberfile.specs.Judge.{gone, turned_by, turned, Log, blank, logged, ended, ending, onward, judge, run, Verdict, too_long}
-use Rattle.memberfile.specs.Layout.{FileValue, all_rows}
+use Rattle.memberfile.specs.Judge.{gone, turned_by, turned, Log, blank, logged, ended, ending, onward, judge, run, Verdict}
+use Rattle.memberfile.specs.Layout.{all_rows}
 use Rattle.exactness.specs.Refusal.{Breaks, FaultIn, FieldsRule, FileRule, FirstBroken, Follows, Front, Keeps, Refused, Right, Rule, Stands, as_rules, bare, batches, bytes_of, fault_of, fields, fields_cause, file, file_cause, file_rules, head_whole, header_in_range, in_order, kind_right, length_right, number_right, opened, rules, tag_at, tag_known, totals_right, value_at, value_whole, whole}
 use Rattle.memberfile.specs.declared.header.Header.{Header}
 use Rattle.wire.specs.declared.record.Tag.{Tag}
@@ -23,15 +23,14 @@ use Rattle.terms.specs.declared.file_kind.FileKind.{FileKind}
 use Rattle.terms.specs.declared.file_kind.FileKind.TheVariants.{Presentations, Returns}
 use Rattle.terms.specs.declared.refusal.Refusal.{Refusal}
 use Rattle.terms.specs.declared.refusal.Refusal.TheVariants.{HeaderValue, OutOfOrder, ValueCut, WrongLength}
-use Rattle.wire.specs.declared.row.Row.{Row}
 use Rattle.wire.specs.declared.row.Row.TheVariants.{Presentation, Return}
 use Rattle.wire.specs.declared.values.Presentation.{Presentation as PresentationV}
 use Rattle.wire.specs.declared.values.Return.{Return as ReturnV}
 use Rattle.exactness.proofs.Complete.{same_refl}
 use Rattle.exactness.proofs.Forth.{behind_inv}
 use Rattle.exactness.proofs.Headers.{unsaid_out}
-use Rattle.exactness.proofs.Sound.{AtBetween, AtBatch, AtEnd, Reached, Onward, on, same_totals_lem}
-use Rattle.memberfile.proofs.Turns.{turned_ok, gone_far, judge_long, judge_short}
+use Rattle.exactness.proofs.Sound.{Reached, Onward, on}
+use Rattle.memberfile.proofs.Turns.{turned_ok, judge_long, judge_short}
 use Rattle.memberfile.proofs.Walks.{less}
 
 -- tests that ended in a fault

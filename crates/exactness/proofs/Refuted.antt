@@ -1,18 +1,16 @@
 -- What breaks a rule, behind what stands in order, is refused by that rule.
-use Rattle.std.proofs.Common.{◌≡◌, ℕ, zero, suc, ◌+◌, ◌-◌, ◌<◌, ◌≤◌, Bool, true, false, ◌⊎◌, List, [], ◌∷◌, ◌++◌, length, None, Ok, Err, Result, sym, refl, ap, ◌∙◌, subst, inl, inr, ⊎_elim, append_assoc, arith, length-append, eqb-true, leb-false}
+use Rattle.std.proofs.Common.{◌≡◌, ℕ, zero, suc, ◌+◌, ◌-◌, ◌<◌, ◌≤◌, true, List, [], ◌∷◌, ◌++◌, length, None, Ok, Err, Result, sym, refl, ap, ◌∙◌, subst, inl, inr, append_assoc, arith, length-append, eqb-true, leb-false}
 use Rattle.wire.specs.Bytes.{in_bytes, Octets}
-use Rattle.wire.specs.Records.{Piece, piece, width, first_record}
+use Rattle.wire.specs.Records.{Piece, width}
 use Rattle.terms.specs.Numbers.{batch_kind}
 use Rattle.wire.specs.Rows.{is_of, no_totals, tally}
-use Rattle.memberfile.specs.Headers.{InRange}
 use Rattle.memberfile.specs.Stages.{begun, fresh, stepped}
-use Rattle.memberfile.specs.Layout.{BatchValue, FileValue, all_rows, enc_batch_head, enc_batches, enc_file_head, enc_rows, FormedRows, FormedBatches, LawfulHeader}
-use Rattle.memberfile.specs.Judge.{turned, Log, blank, ending, ended, judge, run, summed, Verdict, too_long}
-use Rattle.exactness.specs.Refusal.{Breaks, FaultIn, FileRule, FirstBroken, Follows, Front, HeaderRight, Keeps, Refused, RefusedBy, Right, Rule, Stands, bare, batches, bytes_of, fault_of, fields, file, head_whole, header_in_range, in_order, kind_right, last_of, length_right, number_right, opened, opening, rules, tag_at, tag_known, totals_right, value_at, value_whole, whole}
+use Rattle.memberfile.specs.Layout.{BatchValue, all_rows, enc_batch_head, enc_batches, enc_file_head, enc_rows, FormedRows, FormedBatches, LawfulHeader}
+use Rattle.memberfile.specs.Judge.{turned, Log, blank, ending, judge, summed, Verdict}
+use Rattle.exactness.specs.Refusal.{Breaks, FaultIn, FileRule, FirstBroken, Follows, Front, HeaderRight, Keeps, Refused, RefusedBy, Right, Rule, Stands, bare, batches, bytes_of, fault_of, fields, file, head_whole, header_in_range, in_order, kind_right, last_of, length_right, number_right, opened, opening, rules, tag_known, totals_right, value_at, value_whole, whole}
 use Rattle.memberfile.specs.declared.header.Header.{Header}
 use Rattle.wire.specs.declared.record.Tag.{Tag}
 use Rattle.wire.specs.declared.record.Tag.TheVariants.{FileHeader, BatchHeader, Presentation as t_presentation, Return as t_return, BatchEnd, FileEnd}
-use Rattle.wire.specs.declared.row.Row.{Row}
 use Rattle.memberfile.specs.declared.stage.Moved.{Moved}
 use Rattle.memberfile.specs.declared.stage.Sofar.{Sofar}
 use Rattle.memberfile.specs.declared.stage.Stage.{Stage}
@@ -27,8 +25,8 @@ use Rattle.memberfile.specs.declared.check.Summary.{Summary}
 use Rattle.exactness.proofs.Complete.{Gets, gets_at, step_on, rows_on, batches_gets, whole_gets, head_step, through, through_header, through_batches, through_totals, with_rows, batch_with, log_of, tally-++}
 use Rattle.memberfile.proofs.Summaries.{summed_err, summed_ok}
 use Rattle.exactness.proofs.Headers.{and_parts, said_in_range}
-use Rattle.exactness.proofs.Refuse.{ok_not, same_tag, front_of, Fine, fine, turn_breaks, refuses}
-use Rattle.exactness.proofs.Sound.{AtBetween, AtBatch, Reached, same_totals_lem}
+use Rattle.exactness.proofs.Refuse.{same_tag, front_of, Fine, fine, turn_breaks, refuses}
+use Rattle.exactness.proofs.Sound.{Reached, same_totals_lem}
 use Rattle.memberfile.proofs.Steps.{Steps, steps}
 use Rattle.memberfile.proofs.Turns.{turned_ok, run_off, judge_long, judge_short}
 

@@ -1,17 +1,17 @@
 -- What is accepted is the encoding of a well-formed file.
-use Rattle.std.proofs.Common.{◌≡◌, ℕ, zero, suc, ◌+◌, ◌-◌, ◌*◌, ◌<◌, ◌≤◌, Bool, true, false, cond, ◌&&◌, eqb, ltb, leb, List, [], ◌∷◌, ◌++◌, length, drop, Some, None, Ok, Err, Result, sym, refl, ap, ◌∙◌, subst, ⊎_elim, append_assoc, append-nil, arith, length-append, ltb-false, lt-ltb, eqb-true, leb-false}
+use Rattle.std.proofs.Common.{◌≡◌, ℕ, zero, suc, ◌+◌, ◌<◌, ◌≤◌, true, List, [], ◌∷◌, ◌++◌, length, drop, Some, None, Ok, Err, Result, sym, refl, ap, ◌∙◌, subst, ⊎_elim, append_assoc, append-nil, arith, length-append, eqb-true, leb-false}
 use Rattle.std.proofs.str.Laws.{order}
 use Rattle.wire.specs.Bytes.{in_bytes, Octets}
-use Rattle.wire.specs.Records.{first_record, Piece, piece, width}
+use Rattle.wire.specs.Records.{width}
 use Rattle.wire.specs.Values.{raw_header_in, batch_head_in, presentation_in, return_in, closing_in}
 use Rattle.terms.specs.Numbers.{batch_kind}
 use Rattle.terms.specs.declared.file_kind.FileKind.{FileKind}
 use Rattle.wire.specs.Rows.{is_of, no_totals, plus, same_totals, tally}
-use Rattle.memberfile.specs.Headers.{header_of, raw_of}
-use Rattle.memberfile.specs.Stages.{begun, fresh, goes_to, row_in, shut_batch, stepped, took}
-use Rattle.memberfile.specs.Layout.{BatchValue, FileValue, FitsRow, FitsTotals, Formed, FormedBatches, FormedRows, LawfulHeader, all_rows, enc_batch_end, enc_batch_head, enc_batches, enc_closing, enc_file_end, enc_file_head, enc_header, enc_presentation, enc_record, enc_return, enc_row, enc_rows, encode}
+use Rattle.memberfile.specs.Headers.{header_of}
+use Rattle.memberfile.specs.Stages.{begun, fresh, goes_to, row_in, shut_batch, took}
+use Rattle.memberfile.specs.Layout.{BatchValue, FileValue, FitsRow, FitsTotals, Formed, FormedBatches, FormedRows, LawfulHeader, all_rows, enc_batch_end, enc_batch_head, enc_batches, enc_closing, enc_file_end, enc_file_head, enc_header, enc_record, enc_row, enc_rows, encode}
 use Rattle.exactness.specs.Refusal.{last_of, opening}
-use Rattle.memberfile.specs.Judge.{gone, gone_by, turned, Log, blank, logged, ended, onward, judge, run, Verdict, too_long}
+use Rattle.memberfile.specs.Judge.{gone, gone_by, turned, Log, blank, logged, ended, onward, judge, run, Verdict}
 use Rattle.memberfile.specs.declared.header.Header.{Header}
 use Rattle.wire.specs.declared.values.Totals.{Totals}
 use Rattle.wire.specs.declared.record.Tag.{Tag}

@@ -1,5 +1,5 @@
 -- Why a file is refused, in the words of files: what stands before the place, and the first rule that is broken there.
-use Rattle.std.specs.Prelude.{◌≡◌, ℕ, ◌+◌, ◌*◌, ◌<◌, ◌≤◌, true, ◌⊎◌, List, [], ◌∷◌, ◌++◌, length, take, drop, Some, None, Ok, Err, Option, Result, slice_index}
+use Rattle.std.specs.Prelude.{◌≡◌, ℕ, ◌+◌, ◌*◌, ◌<◌, ◌≤◌, ◌⊎◌, List, [], ◌∷◌, ◌++◌, length, take, drop, Some, Ok, Err, Option, Result, slice_index}
 use Rattle.terms.specs.Codes.{fields_fault, file_fault}
 use Rattle.terms.specs.Numbers.{batch_kind}
 use Rattle.terms.specs.declared.fault.Fault.{Fault}

@@ -1,5 +1,5 @@
 -- What a step that is taken says.
-use Rattle.std.proofs.Common.{◌≡◌, ℕ, ◌+◌, Bool, true, false, cond, ◌&&◌, eqb, leb, List, [], ◌∷◌, ◌++◌, Some, None, Ok, Err, Option, Result, sym, refl, ap, ◌∙◌, subst, arith}
+use Rattle.std.proofs.Common.{◌≡◌, ℕ, Bool, true, false, cond, ◌&&◌, eqb, leb, List, Some, None, Ok, Err, Option, Result, refl, arith}
 use Rattle.wire.specs.Records.{piece}
 use Rattle.wire.specs.Values.{raw_header_in, batch_head_in, presentation_in, return_in, closing_in}
 use Rattle.terms.specs.Numbers.{batch_kind}
@@ -10,10 +10,7 @@ use Rattle.memberfile.specs.declared.header.Header.{Header}
 use Rattle.wire.specs.declared.record.Tag.{Tag}
 use Rattle.wire.specs.declared.record.Tag.TheVariants.{FileHeader, BatchHeader, Presentation as t_presentation, Return as t_return, BatchEnd, FileEnd}
 use Rattle.terms.specs.declared.refusal.Refusal.{Refusal}
-use Rattle.wire.specs.declared.row.Row.{Row}
 use Rattle.wire.specs.declared.row.Row.TheVariants.{Presentation, Return}
-use Rattle.memberfile.specs.declared.stage.Sofar.{Sofar}
-use Rattle.memberfile.specs.declared.stage.OpenBatch.{OpenBatch}
 use Rattle.memberfile.specs.declared.stage.Stage.{Stage}
 use Rattle.memberfile.specs.declared.stage.Stage.TheVariants.{BeforeHeader, Between, InBatch, AfterEnd}
 use Rattle.memberfile.specs.declared.stage.Moved.{Moved}

@@ -1,12 +1,11 @@
 -- What one turn of the check keeps.
-use Rattle.std.proofs.Common.{◌≡◌, ℕ, zero, suc, ◌+◌, ◌-◌, ◌*◌, ◌<◌, ◌≤◌, List, [], ◌∷◌, ◌++◌, length, get_or, drop, Some, None, Ok, Err, Option, Result, sym, refl, ap, ◌∙◌, subst, append_assoc, append-nil, arith, length-append, length-drop, drop_of_length-le, drop-cons, drop-drop, le-ltb, lt-ltb}
+use Rattle.std.proofs.Common.{◌≡◌, ℕ, suc, ◌+◌, ◌-◌, ◌<◌, ◌≤◌, List, [], ◌∷◌, ◌++◌, length, drop, Some, None, Ok, Err, Option, Result, sym, refl, ap, ◌∙◌, subst, append_assoc, append-nil, arith, length-append, drop_of_length-le, drop-cons, drop-drop, le-ltb, lt-ltb}
 use Rattle.std.specs.Option.{option_to_list}
-use Rattle.wire.specs.Records.{first_record, at_place, Piece, piece}
+use Rattle.wire.specs.Records.{first_record, at_place, Piece}
 use Rattle.wire.specs.Rows.{presentations, presented}
 use Rattle.memberfile.specs.Stages.{Room, RoomSofar, goes_to, shut_batch, step_placed, stepped, took}
-use Rattle.memberfile.specs.Layout.{BatchValue, FileValue, all_rows}
-use Rattle.memberfile.specs.Judge.{gone_by, gone, turned_by, turned, Log, blank, logged_row, logged_in, logged, ended, ending, judge, run, disorder, too_long, summary_of, summed, Verdict}
-use Rattle.memberfile.specs.declared.header.Header.{Header}
+use Rattle.memberfile.specs.Layout.{BatchValue, all_rows}
+use Rattle.memberfile.specs.Judge.{gone_by, gone, turned_by, turned, Log, blank, logged_row, logged_in, logged, ended, ending, judge, run, disorder, too_long, summed}
 use Rattle.terms.specs.declared.refusal.Refusal.{Refusal}
 use Rattle.wire.specs.declared.record.Tag.{Tag}
 use Rattle.wire.specs.declared.record.Tag.TheVariants.{FileHeader, BatchHeader, Presentation as t_presentation, Return as t_return, BatchEnd, FileEnd}
@@ -18,7 +17,6 @@ use Rattle.terms.specs.declared.fault.Fault.{Fault}
 use Rattle.memberfile.proofs.Steps.{Steps, steps}
 use Rattle.memberfile.specs.declared.stage.Sofar.{Sofar as Sofar'}
 use Rattle.memberfile.specs.declared.stage.OpenBatch.{OpenBatch}
-use Rattle.memberfile.specs.declared.check.Summary.{Summary}
 
 pub gone_at_place : (n : ℕ) (r : Result Piece Refusal) → gone_by (at_place n r) ≡ gone_by r
 gone_at_place n (Ok p) = refl

@@ -1,11 +1,11 @@
 -- The walk over the rows, and that it meets a file's rows.
-use Rattle.std.proofs.Common.{◌≡◌, ℕ, zero, suc, ◌+◌, ◌-◌, ◌<◌, ◌≤◌, List, [], ◌∷◌, ◌++◌, length, take, drop, Some, None, Ok, Err, Option, Result, sym, refl, ap, ◌∙◌, subst, ⊎_elim, append_assoc, append-nil, arith, length-drop}
+use Rattle.std.proofs.Common.{◌≡◌, ℕ, zero, suc, ◌+◌, ◌-◌, ◌<◌, ◌≤◌, List, [], ◌∷◌, ◌++◌, length, take, drop, None, Ok, Err, Option, Result, sym, refl, ap, ◌∙◌, ⊎_elim, append_assoc, append-nil, arith, length-drop}
 use Rattle.std.proofs.str.Laws.{order}
 use Rattle.std.specs.Option.{option_to_list}
-use Rattle.wire.specs.Records.{Piece, piece, first_record}
+use Rattle.wire.specs.Records.{Piece, first_record}
 use Rattle.memberfile.specs.Layout.{FileValue, all_rows}
 use Rattle.memberfile.specs.Judge.{gone, gone_by, turned, Log, blank, logged, ended, onward, judge, run, Verdict}
-use Rattle.memberfile.specs.Walk.{row_by, row_of, walked_by, walked, rows_in, Parted}
+use Rattle.memberfile.specs.Walk.{row_by, row_of, walked_by, walked, rows_in}
 use Rattle.memberfile.specs.declared.header.Header.{Header}
 use Rattle.terms.specs.declared.refusal.Refusal.{Refusal}
 use Rattle.wire.specs.declared.record.Tag.{Tag}

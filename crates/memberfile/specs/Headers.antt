@@ -1,5 +1,5 @@
 -- The header of a member file: which values are in range, and which header the bytes say.
-use Rattle.std.specs.Prelude.{◌≡◌, ℕ, ◌≤◌, Bool, true, cond, ◌&&◌, Some, None, Option, nat_le}
+use Rattle.std.specs.Prelude.{◌≡◌, ◌≤◌, Bool, true, cond, ◌&&◌, Some, None, Option, nat_le}
 use Rattle.terms.specs.Dates.{is_day}
 use Rattle.terms.specs.Numbers.{currency_number, currency_of, cycle_number, cycle_of, kind_number, kind_of}
 use Rattle.terms.specs.declared.currency.Currency.{Currency}

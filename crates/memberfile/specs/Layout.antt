@@ -1,5 +1,5 @@
 -- A member file as a value, its bytes, and when it is well-formed.
-use Rattle.std.specs.Prelude.{◌≡◌, ℕ, ◌+◌, ◌<◌, ◌≤◌, true, List, [], ◌∷◌, ◌++◌, length}
+use Rattle.std.specs.Prelude.{◌≡◌, ℕ, ◌<◌, ◌≤◌, true, List, [], ◌∷◌, ◌++◌, length}
 use Rattle.terms.specs.Numbers.{batch_kind}
 use Rattle.terms.specs.declared.file_kind.FileKind.{FileKind}
 use Rattle.wire.specs.Bytes.{in_bytes}

@@ -1,5 +1,5 @@
 -- The rules of a file record by record: where the check stands and the record it meets decide the next step, or the fault.
-use Rattle.std.specs.Prelude.{◌≡◌, ℕ, ◌+◌, ◌≤◌, Bool, cond, ◌&&◌, List, Some, None, Ok, Err, Option, Result, ◌==◌, nat_le}
+use Rattle.std.specs.Prelude.{ℕ, ◌+◌, ◌≤◌, cond, ◌&&◌, List, Some, None, Ok, Err, Option, Result, ◌==◌, nat_le}
 use Rattle.terms.specs.Codes.{file_fault}
 use Rattle.terms.specs.Numbers.{batch_kind}
 use Rattle.terms.specs.declared.fault.Fault.{Fault}

@@ -1,5 +1,5 @@
 -- A number written in bytes is read back, and bytes read are written back.
-use Rattle.std.proofs.Common.{◌≡◌, ℕ, zero, suc, ◌+◌, ◌-◌, ◌*◌, ◌/◌, ◌%◌, ◌^◌, ◌<◌, ◌≤◌, List, [], ◌∷◌, ◌++◌, length, get_or, take, drop, sym, refl, ap, ◌∙◌, subst, mod-lt, div-add-mod', arith}
+use Rattle.std.proofs.Common.{◌≡◌, ℕ, zero, suc, ◌+◌, ◌*◌, ◌/◌, ◌%◌, ◌^◌, ◌<◌, List, [], ◌∷◌, length, refl, ap, ◌∙◌, mod-lt, div-add-mod', arith}
 use native.Mathlib.Nat.{pow-succ'}
 use lib.Arith.{digits_lt, digits_div, digits_mod}
 use Rattle.wire.specs.Bytes.{number_in, in_bytes, Octets}

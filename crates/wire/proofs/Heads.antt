@@ -1,5 +1,5 @@
 -- A head that is whole and right gives its record.
-use Rattle.std.proofs.Common.{◌≡◌, ℕ, ◌+◌, ◌-◌, ◌*◌, ◌<◌, ◌≤◌, Bool, true, false, cond, eqb, ltb, leb, List, [], ◌∷◌, ◌++◌, length, get_or, take, drop, Some, None, Ok, Err, Option, sym, refl, ap, ◌∙◌, subst, arith, length-drop, length-take-le, le-ltb, eq-eqb}
+use Rattle.std.proofs.Common.{◌≡◌, ℕ, ◌+◌, ◌-◌, ◌*◌, ◌≤◌, List, [], ◌∷◌, length, get_or, take, drop, Some, Ok, Option, sym, ap, ◌∙◌, arith, length-drop, length-take-le, le-ltb, eq-eqb}
 use Rattle.wire.proofs.Numbers.{rest_is}
 use Rattle.wire.specs.Records.{first_record, behind_head, tag_of, width, piece, Piece, Sized}
 use Rattle.wire.specs.declared.record.Tag.{Tag}

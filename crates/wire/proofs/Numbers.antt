@@ -1,5 +1,5 @@
 -- The number in the first bytes of a value, byte by byte, and the rest behind them.
-use Rattle.std.proofs.Common.{◌≡◌, ℕ, ◌+◌, ◌-◌, ◌*◌, ◌<◌, ◌≤◌, List, [], ◌∷◌, ◌++◌, length, get_or, take, drop, sym, refl, ap, ◌∙◌, subst, arith, length-drop, take_all}
+use Rattle.std.proofs.Common.{◌≡◌, ℕ, ◌+◌, ◌-◌, ◌*◌, ◌≤◌, List, [], ◌∷◌, length, get_or, take, drop, ap, arith, length-drop, take_all}
 use Rattle.wire.specs.Bytes.{number_in}
 
 pub number_2 : (v : List ℕ) → 2 ≤ length v → number_in (take 2 v) ≡ get_or v 0 0 * 256 + get_or v 1 0

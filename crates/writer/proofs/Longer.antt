@@ -1,5 +1,5 @@
 -- Rows and batches with one more at the end: their bytes, totals, numbers and form.
-use Rattle.std.proofs.Common.{◌≡◌, ℕ, ◌+◌, ◌*◌, ◌<◌, ◌≤◌, true, List, [], ◌∷◌, ◌++◌, length, sym, refl, ap, ◌∙◌, append_assoc, append-nil, arith}
+use Rattle.std.proofs.Common.{◌≡◌, ℕ, ◌*◌, ◌<◌, ◌≤◌, true, List, [], ◌∷◌, ◌++◌, length, sym, refl, ap, ◌∙◌, append_assoc, append-nil, arith}
 use Rattle.terms.specs.declared.file_kind.FileKind.{FileKind}
 use Rattle.wire.specs.Rows.{Even, is_of, no_totals, plus, tally}
 use Rattle.wire.specs.declared.row.Row.{Row}

@@ -1,4 +1,4 @@
-use Rattle.std.proofs.Common.{◌<◌, ◌≤◌, length, Err, sym, refl, ap, ◌∙◌, subst, leb-false, leb-true}
+use Rattle.std.proofs.Common.{◌<◌, ◌≤◌, length, Err, sym, ap, ◌∙◌, subst, leb-false, leb-true}
 use Rattle.std.proofs.lemmas.Result.{err_from_is_err_and}
 use Rattle.memberfile.specs.Judge.{disorder, summed}
 use Rattle.memberfile.proofs.Turns.{judge_long, begins, refused_at_lem, goes_on_at, accepted, behind_end}

@@ -1,4 +1,4 @@
-use Rattle.std.proofs.Common.{drop, sym, ap, ◌∙◌, arith}
+use Rattle.std.proofs.Common.{drop, ap, ◌∙◌, arith}
 use Rattle.memberfile.specs.Judge.{turned_by, gone_by}
 use Rattle.wire.specs.Records.{first_record, said}
 use Rattle.memberfile.specs.Stages.{step_at}
