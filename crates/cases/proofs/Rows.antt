@@ -1,7 +1,7 @@
 -- Each row of the table is settled, by the withdrawals that its clearing takes.
 use Rattle.std.proofs.Common.{◌≡◌, ℕ, Bool, true, ◌&&◌, List, [], ◌∷◌, map, length, refl}
 use Rattle.std.proofs.lemmas.Bool.{and_parts}
-use Rattle.std.specs.List.{AllByRecursion as All}
+use Rattle.std.specs.List.{AllByRecursion}
 use Rattle.rules.specs.Rankings.{any_ranking}
 use Rattle.clearing.specs.Choices.{up_to, total}
 use Rattle.clearing.specs.Positions.{position}
@@ -34,5 +34,5 @@ each_row case.G = by (row_of case.G) (1 ∷ 0 ∷ []) refl refl
 each_row case.H = by (row_of case.H) (2 ∷ []) refl refl
 each_row case.I = by (row_of case.I) [] refl refl
 
-pub all_rows_lem : All Settled table
+pub all_rows_lem : AllByRecursion Settled table
 all_rows_lem = (each_row case.A, (each_row case.B, (each_row case.C, (each_row case.D, (each_row case.E, (each_row case.F, (each_row case.G, (each_row case.H, (each_row case.I, tt)))))))))

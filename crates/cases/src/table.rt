@@ -1,7 +1,7 @@
 // The names of the cases, and the three members that they are about.
 ghost use Rattle.cases.specs.Entries.{code_of, place_of};
 ghost use Rattle.cases.specs.Settled.{Settled, letter_of, table};
-ghost use Rattle.std.specs.List.{AllByRecursion as All};
+ghost use Rattle.std.specs.List.{AllByRecursion};
 ghost use Rattle.std.specs.Prelude.{◌≡◌};
 
 #[derive(Clone, Copy)]
@@ -82,5 +82,5 @@ impl Party {
 
 // Each row of the table is settled as the rules say.
 pub fn settled()
-    ensures { All Settled table }
+    ensures { AllByRecursion Settled table }
 {}
