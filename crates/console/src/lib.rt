@@ -8,6 +8,4 @@ mod files;
 pub mod hexadecimal;
 pub mod misread;
 pub mod names;
-pub mod sitting;
-pub mod wording;
 pub mod words;

@@ -1,180 +1,122 @@
-// The command `bench`: how long the calls upon a session take, by the clock, over the member files of a folder.
+// The command `bench`: with no folder, how long a clearing of a full table takes, by the clock.
 mod clock;
+mod folder;
 mod input;
 mod sum;
 mod verdicts;
 
-use crate::bench::clock::{Best, REPEATS, TURNS};
-use crate::bench::input::{Input, blank_places, covers_of, read_input};
-use crate::bench::sum::Sum;
-use crate::bench::verdicts::Verdicts;
+use crate::bench::folder::{FOLDER_WANTED, bench_folder, needs_folder};
 use crate::usage::bad_usage;
-use memberfile::check::FILE_MOST_BYTES;
-use result::file::write_result;
-use rules::instruments::transfers::CreditTransfers;
-use rules::ranking::Ranking;
-use rules::rankings::{SendingOrder, WagesFirst};
+use clearing::entry::Entry;
+use clearing::netting::clear_by;
+use clearing::place::{CAPACITY, MEMBERS, Place};
+use rules::rankings::SendingOrder;
 use rules::sources::statement::Statement;
-use session::session::Session;
+use std::alloc::Global;
 use std::time::Instant;
 
-const WANTED: &str =
-    "bench: intake FOLDER, clear FOLDER RULE COVER or result FOLDER RULE COVER is wanted";
+const WORTH: u32 = 100;
 
-// No file has as many rows as it may have bytes, and no result is longer than twice that.
-const OUTCOMES: usize = FILE_MOST_BYTES;
+const AMPLE: u64 = 1_000_000_000_000;
 
-const RESULT_MOST_BYTES: usize = 2 * FILE_MOST_BYTES;
-
-// A session over the places that has taken the files in.
-fn taken_in(input: &Input, session: Session, out: &mut [u8]) -> Session {
-    let mut session = session;
-    for file in &input.files {
-        let _ = session.intake(&CreditTransfers, file, out);
+fn place_of(payer: usize, receiver: usize) -> Place {
+    Place {
+        entry: Entry {
+            record_type: 220,
+            origin: 1,
+            other: 2,
+            reference: 1,
+            amount: WORTH,
+            commission: 0,
+            worth: WORTH,
+            payer: (payer % MEMBERS) as u8,
+            receiver: (receiver % MEMBERS) as u8,
+            returnable: true,
+            returned: false,
+        },
+        kept: false,
     }
-    session
 }
 
-fn new_session(rt: &HostRuntime, input: &Input) -> anyhow::Result<Session> {
-    let mut out = vec![in rt.alloc(); 0u8; OUTCOMES]?;
-    let empty = Session::open(input.docket, blank_places(rt.alloc())?);
-    Ok(taken_in(input, empty, &mut out))
+// A full table in which the members pay in turn.
+fn round_table(heap: Global) -> anyhow::Result<Vec<Place>> {
+    let mut places = Vec::new(heap);
+    for i in 0..CAPACITY {
+        places.push(place_of(i, i + 1))?;
+    }
+    Ok(places)
 }
 
-// Shows the best time of a job, the rows that it was for, and what came of it.
-fn show(rt: &HostRuntime, job: &str, rows: usize, best: Best, sum: Sum) -> anyhow::Result<()> {
-    let picoseconds = best.picoseconds();
-    let value = sum.value();
-    println!(rt; "{job} rows={rows} picoseconds={picoseconds} sum={value:016x}")?;
+// A full table in which the first member pays all.
+fn one_payer_table(heap: Global) -> anyhow::Result<Vec<Place>> {
+    let mut places = Vec::new(heap);
+    for i in 0..CAPACITY {
+        places.push(place_of(0, i % (MEMBERS - 1) + 1))?;
+    }
+    Ok(places)
+}
+
+// The codes from 1, as many as a roll can hold.
+fn full_roll() -> [u16; MEMBERS] {
+    let mut roll = [0; MEMBERS];
+    for i in 0..MEMBERS {
+        roll[i] = i as u16 + 1;
+    }
+    roll
+}
+
+fn ample_covers(roll: &[u16]) -> Statement {
+    let mut statement = Statement::new();
+    for code in roll {
+        let _ = statement.report(*code, AMPLE);
+    }
+    statement
+}
+
+// Clears the table so many times, and shows the time that one entry takes.
+fn time(
+    rt: &HostRuntime,
+    name: &str,
+    source: &Statement,
+    places: &mut [Place],
+    turns: u32,
+) -> anyhow::Result<()> {
+    let roll = full_roll();
+    let start = Instant::now(rt)?;
+    let mut withdrawn = 0;
+    for _ in 0..turns {
+        withdrawn = clear_by(&SendingOrder, source, &roll, places, CAPACITY).withdrawn;
+    }
+    let spent = start.elapsed(rt)?.as_nanos();
+    let entries = u128::from(turns) * CAPACITY as u128;
+    if entries == 0 {
+        return Ok(());
+    }
+    let each = spent / entries;
+    println!(rt;
+        "{name}: {CAPACITY} entries, {MEMBERS} members, {withdrawn} withdrawn, {turns} times: {each} ns per entry"
+    )?;
     Ok(())
 }
 
-// Judges the files, without a session.
-fn bench_check(rt: &HostRuntime, input: &Input) -> anyhow::Result<()> {
-    let mut best = Best::new(1);
-    let mut verdicts = Verdicts::none();
-    for _ in 0..TURNS {
-        let start = Instant::now(rt)?;
-        verdicts = Verdicts::on(&input.files);
-        best.count(start.elapsed(rt)?.as_nanos());
-        if best.is_enough() {
-            break;
-        }
-    }
-    show(rt, "check", verdicts.rows(), best, verdicts.sum())
-}
-
-// Takes the files in, into a new session each turn; the places are made before the clock starts.
-fn bench_intake(rt: &HostRuntime, input: &Input) -> anyhow::Result<()> {
-    let mut best = Best::new(1);
-    let mut out = vec![in rt.alloc(); 0u8; OUTCOMES]?;
-    let mut last = new_session(rt, input)?;
-    for _ in 0..TURNS {
-        let places = blank_places(rt.alloc())?;
-        let start = Instant::now(rt)?;
-        let session = taken_in(input, Session::open(input.docket, places), &mut out);
-        best.count(start.elapsed(rt)?.as_nanos());
-        last = session;
-        if best.is_enough() {
-            break;
-        }
-    }
-    let mut sum = Sum::new();
-    let mut session = Session::open(input.docket, blank_places(rt.alloc())?);
-    sum.add_intakes(&mut session, &input.files, &mut out);
-    sum.add_session(&last);
-    show(rt, "intake", last.held(), best, sum)
-}
-
-// Clears the session over and over, each time from all its records.
-fn bench_clear<R: Ranking>(
-    rt: &HostRuntime,
-    session: Session,
-    rule: &R,
-    source: &Statement,
-) -> anyhow::Result<()> {
-    let mut session = session;
-    let mut best = Best::new(REPEATS);
-    let mut sum = Sum::new();
-    let withdrawn = session.clear(rule, source);
-    for _ in 0..TURNS {
-        let start = Instant::now(rt)?;
-        for _ in 0..REPEATS {
-            let _ = session.clear(rule, source);
-        }
-        best.count(start.elapsed(rt)?.as_nanos());
-        if best.is_enough() {
-            break;
-        }
-    }
-    sum.add(withdrawn as u64);
-    sum.add_session(&session);
-    show(rt, "clear", session.held(), best, sum)
-}
-
-// Clears the session once, and writes its result over and over.
-fn bench_result<R: Ranking>(
-    rt: &HostRuntime,
-    session: Session,
-    rule: &R,
-    source: &Statement,
-) -> anyhow::Result<()> {
-    let mut session = session;
-    let mut best = Best::new(REPEATS);
-    let mut out = vec![in rt.alloc(); 0u8; RESULT_MOST_BYTES]?;
-    let _ = session.clear(rule, source);
-    for _ in 0..TURNS {
-        let start = Instant::now(rt)?;
-        for _ in 0..REPEATS {
-            let _ = write_result(&session, &mut out);
-        }
-        best.count(start.elapsed(rt)?.as_nanos());
-        if best.is_enough() {
-            break;
-        }
-    }
-    let mut sum = Sum::new();
-    sum.add_bytes(&out);
-    show(rt, "result", session.held(), best, sum)
-}
-
-fn bench_cleared<R: Ranking>(
-    rt: &HostRuntime,
-    job: &str,
-    input: &Input,
-    rule: &R,
-    cover: &str,
-) -> anyhow::Result<()> {
-    let Some(source) = covers_of(&input.docket, cover) else {
-        return bad_usage(rt, WANTED);
+fn bench_clear(rt: &HostRuntime, words: &[String]) -> anyhow::Result<()> {
+    let [what] = words else {
+        return bad_usage(rt, "bench: clear is wanted");
     };
-    let session = new_session(rt, input)?;
-    match job {
-        "clear" => bench_clear(rt, session, rule, &source),
-        "result" => bench_result(rt, session, rule, &source),
-        _ => bad_usage(rt, WANTED),
+    if what.as_str() != "clear" {
+        return bad_usage(rt, "bench: clear is wanted");
     }
-}
-
-fn bench_files(rt: &HostRuntime, job: &str, input: &Input) -> anyhow::Result<()> {
-    match job {
-        "check" => bench_check(rt, input),
-        "intake" => bench_intake(rt, input),
-        _ => bad_usage(rt, WANTED),
-    }
+    let mut places = round_table(rt.alloc())?;
+    let ample = ample_covers(&full_roll());
+    time(rt, "nothing withdrawn", &ample, &mut places, 2_000)?;
+    let mut chain = one_payer_table(rt.alloc())?;
+    time(rt, "one payer's chain", &Statement::new(), &mut chain, 20)
 }
 
 pub(crate) fn run_bench(rt: &HostRuntime, words: &[String]) -> anyhow::Result<()> {
-    let [job, folder, rest @ ..] = words else {
-        return bad_usage(rt, WANTED);
-    };
-    let input = read_input(rt, folder.as_str())?;
-    let [rule, cover] = rest else {
-        return bench_files(rt, job.as_str(), &input);
-    };
-    match rule.as_str() {
-        "sending" => bench_cleared(rt, job.as_str(), &input, &SendingOrder, cover.as_str()),
-        "wages" => bench_cleared(rt, job.as_str(), &input, &WagesFirst, cover.as_str()),
-        _ => bad_usage(rt, WANTED),
+    match words {
+        [job, folder, rest @ ..] => bench_folder(rt, job.as_str(), folder.as_str(), rest),
+        [job] if needs_folder(job.as_str()) => bad_usage(rt, FOLDER_WANTED),
+        _ => bench_clear(rt, words),
     }
 }

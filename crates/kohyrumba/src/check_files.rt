@@ -2,7 +2,6 @@
 use crate::records::show_records;
 use crate::usage::bad_usage;
 use anyhow::anyhow;
-use console::wording::rule_in_words;
 use exactness::judged::judge_file;
 use memberfile::check::Summary;
 use std::{fs, io};
@@ -32,7 +31,7 @@ fn show_refused(rt: &HostRuntime, name: &str, fault: Fault) -> io::Result<()> {
     let code = fault.cause.code();
     let layer = fault.layer.number();
     let place = fault.place;
-    let cause = rule_in_words(fault.cause);
+    let cause = fault.cause;
     println!(rt; "{name}: refused code={code} layer={layer} place={place} ({cause})")
 }
 

@@ -63,12 +63,15 @@ const CASES: &str = "usage: kohyrumba cases
 
 Shows the nine cases settled by hand, each with what is kept and the positions, as the engine settles them.";
 
-const BENCH: &str = "usage: kohyrumba bench check FOLDER
+const BENCH: &str = "usage: kohyrumba bench clear
+       kohyrumba bench check FOLDER
        kohyrumba bench intake FOLDER
        kohyrumba bench clear FOLDER RULE COVER
        kohyrumba bench result FOLDER RULE COVER
 
-Measures the calls upon a session of the member files in FOLDER, as bench/run makes them, and prints one line: what was done, how long
+Without a folder, it prints the time that a clearing of a full table takes, for each entry.
+
+With a folder, it measures the calls upon a session of the member files in FOLDER, as bench/run makes them, and prints one line: what was done, how long
 it took, and a checksum of all answers. RULE is sending or wages; COVER is ample, scant or none. bench/run puts a plain Rust program beside it.";
 
 const RUN: &str = "usage: kohyrumba run SCRIPT

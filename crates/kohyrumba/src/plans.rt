@@ -3,10 +3,9 @@ use crate::usage::bad_usage;
 use anyhow::anyhow;
 use console::console::is_silent;
 use console::hexadecimal::Hexadecimal;
-use console::sitting::demo;
-use console::sitting::shelf::Shelf;
-use console::sitting::sitting::Sitting;
-use console::wording::rule_in_words;
+use sitting::demo;
+use sitting::shelf::Shelf;
+use sitting::sitting::Sitting;
 use result::file::write_result;
 use session::session::Session;
 use std::{fs, io};
@@ -38,8 +37,7 @@ fn result_of(rt: &HostRuntime, session: &Session) -> anyhow::Result<Vec<u8>> {
             Ok(bytes)
         }
         Err(refusal) => {
-            let why = rule_in_words(refusal);
-            eprintln!(rt; "kohyrumba: there is no result: {why}")?;
+            eprintln!(rt; "kohyrumba: there is no result: {refusal}")?;
             Err(anyhow!("there is no result"))
         }
     }
@@ -80,7 +78,6 @@ fn sitting_of(rt: &HostRuntime, name: &str) -> anyhow::Result<Sitting> {
                 eprintln!(rt;
                     "kohyrumba: {name}: the plan is empty; its first line should be a docket"
                 )?;
-                return Err(anyhow!("the plan is empty"));
             }
             let mut sitting = Sitting::new(rt.alloc(), Shelf::Disk);
             carry_out(rt, &mut sitting, name, plan.as_str())?;

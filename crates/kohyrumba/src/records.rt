@@ -2,7 +2,7 @@
 ghost use Rattle.wire.specs.Records.{Sized, said};
 ghost use Rattle.std.specs.Prelude.{◌≡◌, length};
 
-use console::sitting::amounts::Money;
+use sitting::amounts::Money;
 use std::io;
 use wire::reader::Reader;
 use wire::record::Record;

@@ -23,15 +23,11 @@ const USAGE: &str = "usage: kohyrumba COMMAND
       the limits of each instrument, asked from the instrument itself
   cases
       the cases settled by hand, as the engine settles them
-  bench check FOLDER
-  bench intake FOLDER
-  bench clear FOLDER RULE COVER
-  bench result FOLDER RULE COVER
-      the time that it takes to judge the files of a folder, to take them in, to clear them, or to write the result, and a checksum;
-      RULE is sending or wages, COVER is ample, scant or none; the folder has files 0, 1, 2.. and a docket, as bench/run makes them
+  bench clear
+      the time that a clearing of a full table takes
   run SCRIPT
       carry out command lines of this program, one to a line
-  --help        this text; COMMAND --help says more of a command
+  --help        this text
   --version     the program's version
 
 In plans and lists a line that begins with # is a comment, and an amount is in hundredths, or has a point and two decimals.

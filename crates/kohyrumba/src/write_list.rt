@@ -1,7 +1,7 @@
 // The command `write`: a member file from a readable list of its records.
 use crate::usage::bad_usage;
 use anyhow::anyhow;
-use console::sitting::lists::file_of;
+use sitting::lists::file_of;
 use std::{fs, io};
 
 fn save(rt: &HostRuntime, path: &str, bytes: &[u8]) -> io::Result<()> {

@@ -1,8 +1,8 @@
 // The command `rules`: the limits of each instrument, asked from the instrument itself.
 use crate::usage::bad_usage;
-use console::sitting::amounts::Money;
 use rules::instrument::{Denial, Instrument};
 use rules::instruments::AnyInstrument;
+use sitting::amounts::Money;
 use std::io;
 use terms::currency::Currency;
 

@@ -1,11 +1,11 @@
 // A member file from a readable list of its records, a record to a line.
-use crate::console::is_silent;
-use crate::console::writing::header_of;
-use crate::draft::Draft;
-use crate::misread::Misread;
-use crate::sitting::reading::{header_in, presentation_in, return_in};
-use crate::sitting::why::{Why, Wrong};
-use crate::words::{number, words_of};
+use crate::reading::{header_in, presentation_in, return_in};
+use crate::why::{Why, Wrong};
+use console::console::is_silent;
+use console::console::writing::header_of;
+use console::draft::Draft;
+use console::misread::Misread;
+use console::words::{number, words_of};
 use memberfile::check::FILE_MOST_BYTES;
 use std::alloc::Global;
 use wire::row::Row;

@@ -1,4 +1,6 @@
 // What people read and write: lists of records, plans of a session, and the sheets of a clearing room.
+#![tactic(auto)]
+
 pub mod amounts;
 pub mod demo;
 pub mod lists;

@@ -1,6 +1,5 @@
 // What the clearing room has on paper: the verdict on each file, and what each clearing leaves.
-use crate::sitting::amounts::{Balance, Money};
-use crate::wording::rule_in_words;
+use crate::amounts::{Balance, Money};
 use session::session::mark::Mark;
 use session::session::{Session, Taken};
 use std::io;
@@ -44,21 +43,21 @@ pub fn show_refused(rt: &HostRuntime, name: &str, fault: Fault) -> io::Result<()
     let code = fault.cause.code();
     let layer = fault.layer.number();
     let place = fault.place;
-    let cause = rule_in_words(fault.cause);
+    let cause = fault.cause;
     println!(rt; "{name}: refused with {code} in layer {layer} at place {place}: {cause}")
 }
 
 // Why a row with that code was turned away.
 fn cause_of(code: u8) -> &'static str {
     match code {
-        40 => rule_in_words(Refusal::OtherMember),
-        41 => rule_in_words(Refusal::RecordType),
-        42 => rule_in_words(Refusal::NotAdmitted),
-        43 => rule_in_words(Refusal::ReferenceUsed),
-        44 => rule_in_words(Refusal::NoSuchRecord),
-        45 => rule_in_words(Refusal::AlreadyReturned),
-        46 => rule_in_words(Refusal::ReturnDiffers),
-        _ => rule_in_words(Refusal::ReturnCause),
+        40 => Refusal::OtherMember.words(),
+        41 => Refusal::RecordType.words(),
+        42 => Refusal::NotAdmitted.words(),
+        43 => Refusal::ReferenceUsed.words(),
+        44 => Refusal::NoSuchRecord.words(),
+        45 => Refusal::AlreadyReturned.words(),
+        46 => Refusal::ReturnDiffers.words(),
+        _ => Refusal::ReturnCause.words(),
     }
 }
 
@@ -95,8 +94,7 @@ pub fn show_all_withdrawn(
         for (at, record) in records.iter().enumerate() {
             let number = at.saturating_add(1);
             let withdrawn = match session.mark(number) {
-                Ok(Mark::Withdrawn) => true,
-                Ok(_) => false,
+                Ok(mark) => mark == Mark::Withdrawn,
                 Err(_) => false,
             };
             if withdrawn && record.origin == *code {

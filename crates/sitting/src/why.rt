@@ -1,6 +1,5 @@
 // What is wrong with a line.
-use crate::misread::Misread;
-use crate::wording::rule_in_words;
+use console::misread::Misread;
 use std::alloc::{AllocError, AllocFailed};
 use std::{fmt, io};
 use terms::refusal::Refusal;
@@ -28,8 +27,7 @@ impl fmt::Display for Why {
             Why::Misread(misread) => write!(f, "{misread}"),
             Why::Refused(refusal) => {
                 let code = refusal.code();
-                let rule = rule_in_words(*refusal);
-                write!(f, "refused {code} ({rule})")
+                write!(f, "refused {code} ({refusal})")
             }
             Why::NoFileLine => write!(
                 f,

@@ -1,8 +1,8 @@
 // Where the files of a plan stand: on disk, or among the lists of the demonstration.
-use crate::misread::Misread;
-use crate::sitting::demo::list_of;
-use crate::sitting::lists::file_of;
-use crate::sitting::why::Why;
+use crate::demo::list_of;
+use crate::lists::file_of;
+use crate::why::Why;
+use console::misread::Misread;
 use std::fs;
 
 #[derive(Clone, Copy)]

@@ -1,6 +1,6 @@
 // Amounts in hundredths of a sol or a dollar, as people read and write them.
-use crate::misread::Misread;
-use crate::words::number;
+use console::misread::Misread;
+use console::words::number;
 use std::fmt;
 
 #[derive(Clone, Copy)]

@@ -1,7 +1,7 @@
 // The words for kinds, cycles, currencies and records, in lists and plans. A number may stand for a word, as the files have it.
-use crate::misread::Misread;
-use crate::sitting::amounts::amount_of;
-use crate::words::number;
+use crate::amounts::amount_of;
+use console::misread::Misread;
+use console::words::number;
 use wire::row::Row;
 use wire::values::{Presentation, RawHeader, Return};
 

@@ -1,16 +1,16 @@
 // A sitting of the clearing room: a plan carried out line by line, and what it says put on paper.
-use crate::console::{Console, is_silent};
-use crate::misread::Misread;
-use crate::names::{instrument_of, ranking_of, source_of};
-use crate::sitting::amounts::amount_of;
-use crate::sitting::papers::{
+use crate::amounts::amount_of;
+use crate::papers::{
     Listed, show_all_withdrawn, show_opening, show_positions, show_refused, show_taken,
     show_turned_away,
 };
-use crate::sitting::reading::{currency_of, cycle_of};
-use crate::sitting::shelf::Shelf;
-use crate::sitting::why::{Why, Wrong};
-use crate::words::{number, numbers, words_of};
+use crate::reading::{currency_of, cycle_of};
+use crate::shelf::Shelf;
+use crate::why::{Why, Wrong};
+use console::console::{Console, is_silent};
+use console::misread::Misread;
+use console::names::{instrument_of, ranking_of, source_of};
+use console::words::{number, numbers, words_of};
 use desk::calls;
 use memberfile::check::check;
 use memberfile::rows::Rows;
