@@ -22,6 +22,7 @@ use crate::usage::{bad_usage, show_usage, show_version};
 use crate::write_list::write_list;
 use anyhow::anyhow;
 use std::alloc::Global;
+use std::process::ExitCode;
 use std::{env, fs};
 
 // The help on a command, where the words ask for it.
@@ -104,10 +105,18 @@ fn run(rt: &HostRuntime, words: &[String]) -> anyhow::Result<()> {
     }
 }
 
-fn main(rt: HostRuntime) -> anyhow::Result<()> {
+fn run_arguments(rt: &HostRuntime) -> anyhow::Result<()> {
     let mut words = Vec::new(rt.alloc());
-    for word in env::args(&rt)?.skip(1) {
+    for word in env::args(rt)?.skip(1) {
         words.push(word)?;
     }
-    run(&rt, &words)
+    run(rt, &words)
+}
+
+// A command says itself why it fails, in its own words, so that nothing more is printed here.
+fn main(rt: HostRuntime) -> ExitCode {
+    match run_arguments(&rt) {
+        Ok(()) => ExitCode::SUCCESS,
+        Err(_) => ExitCode::FAILURE,
+    }
 }

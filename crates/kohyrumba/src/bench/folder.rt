@@ -174,7 +174,13 @@ pub(crate) fn bench_folder(
     folder: &str,
     rest: &[String],
 ) -> anyhow::Result<()> {
-    let input = read_input(rt, folder)?;
+    let input = match read_input(rt, folder) {
+        Ok(input) => input,
+        Err(error) => {
+            eprintln!(rt; "kohyrumba: {folder}: {error}")?;
+            return Err(error);
+        }
+    };
     let [rule, cover] = rest else {
         return bench_files(rt, job, &input);
     };
