@@ -3,11 +3,11 @@ use crate::usage::bad_usage;
 use anyhow::anyhow;
 use console::console::is_silent;
 use console::hexadecimal::Hexadecimal;
+use result::file::write_result;
+use session::session::Session;
 use sitting::demo;
 use sitting::shelf::Shelf;
 use sitting::sitting::Sitting;
-use result::file::write_result;
-use session::session::Session;
 use std::{fs, io};
 
 // The longest result: a header, 64 members, 4,096 withdrawn records and the end.
