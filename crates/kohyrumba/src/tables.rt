@@ -1,3 +1,3 @@
 // Tables of what the engine does.
-pub mod cases;
 pub mod limits;
+pub mod settled_cases;
