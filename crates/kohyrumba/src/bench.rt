@@ -99,7 +99,7 @@ fn time(
     Ok(())
 }
 
-fn bench_clear(rt: &HostRuntime, words: &[String]) -> anyhow::Result<()> {
+pub(crate) fn bench_clear(rt: &HostRuntime, words: &[String]) -> anyhow::Result<()> {
     let [what] = words else {
         return bad_usage(rt, "bench: clear is wanted");
     };

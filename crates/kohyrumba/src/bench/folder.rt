@@ -20,7 +20,7 @@ pub(crate) const FOLDER_WANTED: &str =
 // No file has as many rows as it may have bytes, and no result is longer than twice that.
 const OUTCOMES: usize = FILE_MOST_BYTES;
 
-const RESULT_MOST_BYTES: usize = 2 * FILE_MOST_BYTES;
+const RESULT_ROOM: usize = 2 * FILE_MOST_BYTES;
 
 // A session over the places that has taken the files in.
 fn taken_in(input: &Input, session: Session, out: &mut [u8]) -> Session {
@@ -117,7 +117,7 @@ fn bench_result<R: Ranking>(
 ) -> anyhow::Result<()> {
     let mut session = session;
     let mut best = Best::new(REPEATS);
-    let mut out = vec![in rt.alloc(); 0u8; RESULT_MOST_BYTES]?;
+    let mut out = vec![in rt.alloc(); 0u8; RESULT_ROOM]?;
     let _ = session.clear(rule, source);
     for _ in 0..TURNS {
         let start = Instant::now(rt)?;

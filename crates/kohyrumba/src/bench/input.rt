@@ -1,12 +1,11 @@
 // What is measured: a docket and member files from a folder, and covers by name.
+use crate::bench::AMPLE;
 use anyhow::anyhow;
 use clearing::place::{CAPACITY, Place};
 use rules::sources::statement::Statement;
 use std::alloc::Global;
 use std::fs;
 use terms::docket::Docket;
-
-const AMPLE: u64 = 1_000_000_000_000;
 
 const SCANT: u64 = 100_000;
 
