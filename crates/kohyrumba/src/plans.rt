@@ -1,7 +1,6 @@
 // The commands `session` and `demo`: a plan carried out and put on paper.
 use crate::usage::bad_usage;
 use anyhow::anyhow;
-use console::console::is_silent;
 use console::hexadecimal::Hexadecimal;
 use result::file::write_result;
 use session::session::Session;
@@ -60,25 +59,10 @@ fn save_result(rt: &HostRuntime, session: &Session, path: &str) -> anyhow::Resul
     }
 }
 
-// Whether no line of the plan asks for anything.
-fn is_blank(plan: &str) -> bool {
-    for line in plan.lines() {
-        if !is_silent(line) {
-            return false;
-        }
-    }
-    true
-}
-
 // The sitting after the plan of that name.
 fn sitting_of(rt: &HostRuntime, name: &str) -> anyhow::Result<Sitting> {
     match fs::read_to_string(rt, name) {
         Ok(plan) => {
-            if is_blank(plan.as_str()) {
-                eprintln!(rt;
-                    "kohyrumba: {name}: the plan is empty; its first line should be a docket"
-                )?;
-            }
             let mut sitting = Sitting::new(rt.alloc(), Shelf::Disk);
             carry_out(rt, &mut sitting, name, plan.as_str())?;
             Ok(sitting)
