@@ -13,7 +13,8 @@ use clearing::positions::position;
 // The roll of the three members.
 pub const ROLL: [u16; 3] = [2, 7, 9];
 
-// A case as the engine settled it, with the positions of the members 2, 7 and 9.
+// A case as the engine settled it, with the positions of the members 2, 7 and 9. The first `held` places are the case's, in an array
+// and no `Vec`, so that a case allocates nothing.
 #[derive(Clone, Copy)]
 pub struct Outcome {
     pub places: [Place; PLACES],
@@ -25,11 +26,7 @@ pub struct Outcome {
 fn positions_of(places: &[Place], held: usize) -> [i64; 3]
     ensures { result ≡ map (position (entries (front held places.now)) (kept (front held places.now))) (0 ∷ 1 ∷ 2 ∷ []) }
 {
-    [
-        position(places, held, 0),
-        position(places, held, 1),
-        position(places, held, 2),
-    ]
+    [0, 1, 2].map(|member| position(places, held, member))
 }
 
 // Clears the entries of a case.

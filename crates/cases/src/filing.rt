@@ -20,7 +20,7 @@ const WAGES: u8 = 221;
 
 const DEBIT: u8 = 100;
 
-// A transfer, not yet cleared.
+// A transfer, not yet cleared. The limit on amounts is asked here and of the two below, since the amounts are written out where these are called.
 fn transfer(record_type: u8, number: u32, from: Party, to: Party, amount: u32) -> Place
     requires { amount ≤ 100000000 }
     ensures { result.entry ≡ transfer_of record_type number from to amount }
@@ -59,19 +59,13 @@ fn debit(number: u32, from: Party, to: Party, amount: u32, commission: u16) -> P
     requires limited { amount ≤ 100000000 }
     ensures { result.entry ≡ debit number from to amount commission }
 {
+    let sent = transfer(DEBIT, number, from, to, amount);
     Place {
         entry: Entry {
-            record_type: DEBIT,
-            origin: from.code(),
-            other: to.code(),
-            reference: number,
-            amount,
             commission,
-            worth: amount - commission as u32,
-            payer: from.place(),
-            receiver: to.place(),
+            worth: amount - u32::from(commission),
             returnable: false,
-            returned: false,
+            ..sent.entry
         },
         kept: false,
     }

@@ -29,12 +29,14 @@ impl Case {
         Case::H,
         Case::I,
     ];
+}
 
-    // The letter that the case goes by.
-    pub fn letter(self) -> char
-        ensures { result ≡ letter_of self }
-    {
-        match self {
+// The letter that the case goes by.
+impl From<Case> for char {
+    ghost from_gives = { λ case c. c ≡ letter_of case };
+
+    fn from(case: Case) -> char {
+        match case {
             Case::A => 'A',
             Case::B => 'B',
             Case::C => 'C',
@@ -48,7 +50,7 @@ impl Case {
     }
 }
 
-// The members 2, 7 and 9.
+// The members 2, 7 and 9. Each has two numbers, its code and its place, so they are methods and no conversion.
 #[derive(Clone, Copy)]
 pub enum Party {
     Two,

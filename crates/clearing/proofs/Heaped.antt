@@ -1,15 +1,12 @@
 -- Entries in lanes: the last of a member is the top that no other top of its stands behind; one entry more on a lane, and a top taken off.
-use Rattle.std.proofs.Common.{◌≡◌, ℕ, zero, suc, ◌+◌, ◌-◌, ◌*◌, ◌%◌, ◌<◌, ◌≤◌, max, Bool, true, false, cond, ◌&&◌, ◌||◌, eqb, ltb, ◌⊎◌, List, length, get_or, set, sym, refl, ap, ◌∙◌, subst, subst₂, inl, inr, arith, length-set}
+use Rattle.std.proofs.Common.{◌≡◌, ℕ, zero, suc, ◌+◌, ◌-◌, ◌*◌, ◌%◌, ◌<◌, ◌≤◌, max, Bool, true, false, cond, ◌&&◌, ◌||◌, eqb, ltb, ◌⊎◌, List, length, get_or, set, sym, refl, ap, ◌∙◌, subst, subst₂, inl, inr, arith}
 use Rattle.std.proofs.lemmas.List.{get_or-set_same, get_or-set_other}
 use Rattle.std.proofs.lemmas.Bool.{cases_eq, cases_lt, cases_Bool, and_cases, and_parts, or_cases, or_parts, eqb-true, eqb-false, eq-eqb, ltb-true, ltb-false, le-ltb, ne_eqb, cond-true, cond-false, both_ways}
 use Rattle.rules.specs.Order.{Order, Strict}
-use Rattle.clearing.specs.Balances.{LastOf, Without}
+use Rattle.clearing.specs.Balances.{LastOf, NoneOf, Without}
 use Rattle.clearing.specs.Choices.{Choice, entry_at, key_at}
 use Rattle.clearing.specs.Lanes.{LaneOf, Laned, Narrow, Topmost, comes_after}
-use Rattle.clearing.specs.Table.{kept}
 use Rattle.clearing.specs.declared.entry.Entry.{Entry}
-use Rattle.clearing.specs.declared.place.Place.{Place}
-use Rattle.clearing.proofs.Marks.{kept_past}
 
 module _ (ahead : Order) (es : List Entry) where
   -- b comes after a: there is a b, and a is none or stands before it
@@ -135,7 +132,7 @@ module _ {ahead : Order} (strict : Strict ahead) {es : List Entry} {C : Choice} 
 
   module _ (m l : ℕ) (small : m < 64) (most : Topmost ahead es tops m (m * 4 + 4) l) where
     -- a member with no top has no entry
-    nothing : get_or tops l 0 ≡ 0 → (i : ℕ) → i < n → C i ≡ true → (entry_at es i).payer ≡ m → ⊥
+    pub nothing : get_or tops l 0 ≡ 0 → NoneOf es C m n
     nothing e i lt c p =
         let q = topped i lt c in
         let o = h.own i lt c in
@@ -143,9 +140,6 @@ module _ {ahead : Order} (strict : Strict ahead) {es : List Entry} {C : Choice} 
           | inl z ↦ omega (arith, z, q.1)
           | inr x ↦ omega (arith, e, x.0)
         ]
-
-    pub last_empty : n ≡ length es → get_or tops l 0 ≡ 0 → LastOf ahead es C m n (length es)
-    last_empty all e = record { within = omega arith; own = λ f. absurd (omega arith); others = λ i lt c p. absurd (nothing e i lt c p) }
 
     behind : (r : ℕ) → get_or tops l 0 ≡ r + 1 → (i : ℕ) → i < n → C i ≡ true → (entry_at es i).payer ≡ m → (i ≡ r → ⊥) → ahead (key_at es i) (key_at es r) ≡ true
     behind r e i lt c p ne =
@@ -185,8 +179,9 @@ module _ {ahead : Order} (strict : Strict ahead) {es : List Entry} {C : Choice} 
         let o = h.own r q.0 q.1 in
         record {
           within = omega (arith, q.0);
-          own = λ f. (q.1, omega (arith, q.2, o.0, o.1, most.lane.0, most.lane.1));
-          others = λ i lt c p. (omega (arith, q.0), behind r e i lt c p);
+          chosen = q.1;
+          own = omega (arith, q.2, o.0, o.1, most.lane.0, most.lane.1);
+          others = behind r e;
         }
 
   module _ (l r : ℕ) (small : l < length tops) (few : length tops ≡ 256) (e : get_or tops l 0 ≡ r + 1) (C' : Choice) (w : Without C C' r) where
@@ -365,13 +360,8 @@ module _ {ahead : Order} (strict : Strict ahead) {es : List Entry} {C : Choice} 
       ];
     }
 
-    pub more_laned : (tops⁺ below⁺ : List ℕ) → length below ≡ 4096 → tops⁺ ≡ set tops l (n + 1) → below⁺ ≡ set below n (get_or tops l 0) →
-        (length tops⁺ ≡ 256) × (length below⁺ ≡ 4096) × Laned ahead es C (n + 1) tops⁺ below⁺
-    more_laned tops⁺ below⁺ deep t b = (
-      ap length t ∙ length-set tops l (n + 1) ∙ long,
-      ap length b ∙ length-set below n (get_or tops l 0) ∙ deep,
-      subst₂ (λ (x y : List ℕ). Laned ahead es C (n + 1) x y) (sym t) (sym b) lane_more,
-    )
+    pub more_laned : (tops⁺ below⁺ : List ℕ) → tops⁺ ≡ set tops l (n + 1) → below⁺ ≡ set below n (get_or tops l 0) → Laned ahead es C (n + 1) tops⁺ below⁺
+    more_laned tops⁺ below⁺ t b = subst₂ (λ (x y : List ℕ). Laned ahead es C (n + 1) x y) (sym t) (sym b) lane_more
 
 -- no entry in any lane
 pub lane_none : (ahead : Order) (es : List Entry) (C : Choice) (tops below : List ℕ) → ((l : ℕ) → get_or tops l 0 ≡ 0) → Laned ahead es C 0 tops below
@@ -383,10 +373,7 @@ lane_none ahead es C tops below z = record {
   under = λ j u lt c b. absurd (omega arith);
 }
 
--- lanes that no member uses stay empty: none is used yet, one lane is used, a top is changed where there was one
-pub narrow_none : (tops : List ℕ) → ((l : ℕ) → get_or tops l 0 ≡ 0) → Narrow tops 0
-narrow_none tops z l h = z l
-
+-- lanes that no member uses stay empty: one lane is used, a top is changed where there was one
 pub narrow_more : (tops : List ℕ) (widest lane v : ℕ) → Narrow tops widest → Narrow (set tops lane v) (max widest (lane % 4 + 1))
 narrow_more tops widest lane v narrow l h =
     let other : (l ≡ lane → ⊥) = λ e. let same : l % 4 ≡ lane % 4 = ap (λ (x : ℕ). x % 4) e in omega arith in
@@ -395,7 +382,3 @@ narrow_more tops widest lane v narrow l h =
 pub narrow_less : (tops : List ℕ) (widest lane v : ℕ) → (get_or tops lane 0 ≡ 0 → ⊥) → Narrow tops widest → Narrow (set tops lane v) widest
 narrow_less tops widest lane v some narrow l h =
     get_or-set_other tops lane l v 0 (λ e. some (ap (λ (x : ℕ). get_or tops x 0) (sym e) ∙ narrow l h)) ∙ narrow l h
-
--- nothing is taken out past the end of the table
-pub never_past : (ps : List Place) (D : Choice) (r : ℕ) → length ps ≤ r → Without (kept ps) D r → ⊥
-never_past ps D r h w = both_ways (kept ps r) (kept_past ps r h) w.was

@@ -1,13 +1,17 @@
 pub mod Sums
 pub mod Shares
+pub mod Tallied
 pub mod Added
 pub mod Marks
 pub mod Amounts
+pub mod Made
+pub mod Gathered
 pub mod Last
 pub mod Step
 pub mod State
 pub mod Turn
 pub mod Front
+pub mod Sides
 pub mod Grown
 pub mod Pairs
 pub mod Heaped

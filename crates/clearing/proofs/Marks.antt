@@ -1,8 +1,9 @@
 -- The entries and marks of a table's places.
-use Rattle.std.proofs.Common.{◌≡◌, ℕ, zero, suc, ◌<◌, ◌≤◌, Bool, true, false, cond, not, ◌&&◌, List, [], ◌∷◌, length, get_or, take, set, sym, ap, ◌∙◌, arith, length-take}
+use Rattle.std.proofs.Common.{◌≡◌, ℕ, zero, suc, ◌+◌, ◌<◌, ◌≤◌, Bool, true, false, cond, not, ◌&&◌, List, [], ◌∷◌, length, get_or, set, sym, ap, ◌∙◌, inl, inr, arith}
+use Rattle.std.proofs.lemmas.Bool.{cases_eq}
 use lib.ListN.{length-map}
-use Rattle.std.proofs.lemmas.List.{get_or_past, get_or-take, get_or-map, map-set, set-get_or, get_or-set_same, get_or-set_other}
-use Rattle.clearing.specs.Choices.{no_entry, entry_at, live, share}
+use Rattle.std.proofs.lemmas.List.{get_or_past, get_or-map, map-set, set-get_or, get_or-set_same, get_or-set_other}
+use Rattle.clearing.specs.Choices.{Choice, no_entry, entry_at, live, share}
 use Rattle.clearing.specs.Table.{entries, marks, kept}
 use Rattle.clearing.specs.declared.entry.Entry.{Entry}
 use Rattle.clearing.specs.declared.place.Place.{Place}
@@ -51,6 +52,15 @@ kept_here ps i x h =
 pub kept_there : (ps : List Place) (i k : ℕ) (x : Place) → (k ≡ i → ⊥) → kept (set ps i x) k ≡ kept ps k
 kept_there ps i k x ne = ap (λ (bs : List Bool). get_or bs k false) (marks_set ps i x) ∙ get_or-set_other (marks ps) i k x.kept false ne
 
+-- the place at i is marked as a choice says, as those before it are
+pub kept_more : (ps qs : List Place) (i : ℕ) (x : Place) (C : Choice) → i < length ps → qs ≡ set ps i x → x.kept ≡ C i → ((k : ℕ) → k < i → kept ps k ≡ C k) → (k : ℕ) → k < i + 1 → kept qs k ≡ C k
+kept_more ps qs i x C within is mark before k h =
+    ap (λ (zs : List Place). kept zs k) is
+    ∙ elim (cases_eq k i) [
+      | inl e ↦ ap (kept (set ps i x)) e ∙ kept_here ps i x within ∙ mark ∙ ap C (sym e)
+      | inr ne ↦ kept_there ps i k x ne ∙ before k (omega arith)
+    ]
+
 -- past the end nothing is kept, and nothing is live
 pub kept_past : (ps : List Place) (i : ℕ) → length ps ≤ i → kept ps i ≡ false
 kept_past ps i h = get_or_past (marks ps) i false (omega (arith, marks_long ps))
@@ -66,19 +76,14 @@ unmarked ps qs r h k e = record {
   others = λ i ne. ap (λ (bs : List Bool). get_or bs i false) e ∙ get_or-set_other (marks ps) r i false false ne;
 }
 
--- what is read at a place among the first k
-module _ (k : ℕ) (ps : List Place) (i : ℕ) (x : Place) (below : i < k) (within : i < length ps) (is : x ≡ get_or ps i x) where
-  here : x ≡ get_or (take k ps) i x
-  here = is ∙ sym (get_or-take k ps i x below)
+-- what is read at a place
+module _ (ps : List Place) (i : ℕ) (x : Place) (within : i < length ps) (is : x ≡ get_or ps i x) where
+  pub entry_here : x.entry ≡ entry_at (entries ps) i
+  entry_here = ap (λ (p : Place). p.entry) is ∙ sym (entry_is ps i x within)
 
-  pub entry_at_lem : x.entry ≡ entry_at (entries (take k ps)) i
-  entry_at_lem = ap (λ (p : Place). p.entry) here ∙ sym (entry_is (take k ps) i x (omega (arith, length-take k ps)))
-
-  pub kept_at : x.kept ≡ kept (take k ps) i
-  kept_at = ap (λ (p : Place). p.kept) here ∙ sym (mark_is (take k ps) i x (omega (arith, length-take k ps)))
+  pub mark_here : x.kept ≡ kept ps i
+  mark_here = ap (λ (p : Place). p.kept) is ∙ sym (mark_is ps i x within)
 
   -- what the place brings to a sum
-  pub share_at : (which : Entry → Bool) → cond (x.kept && which x.entry) x.entry.worth 0 ≡ share which (entries (take k ps)) (kept (take k ps)) i
-  share_at which =
-      ap (λ (b : Bool). cond (b && which x.entry) x.entry.worth 0) kept_at
-      ∙ ap (λ (e : Entry). cond (kept (take k ps) i && which e) e.worth 0) entry_at_lem
+  pub share_here : (which : Entry → Bool) → cond (x.kept && which x.entry) x.entry.worth 0 ≡ share which (entries ps) (kept ps) i
+  share_here which = λ j. cond (mark_here j && which (entry_here j)) (entry_here j).worth 0

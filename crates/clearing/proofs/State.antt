@@ -2,7 +2,7 @@
 use Rattle.std.proofs.Common.{◌≡◌, ℕ, ◌+◌, ◌<◌, ◌≤◌, Bool, true, false, cond, not, ◌&&◌, eqb, List, length, get_or, sym, refl, ap, ◌∙◌, inl, inr, arith, length-set}
 use Rattle.std.proofs.lemmas.Bool.{cases_eq, cases_lt, and_from, and_right, eqb-true, both_ways}
 use Rattle.rules.specs.Order.{Order, Strict}
-use Rattle.clearing.specs.Balances.{Balanced, LastOf, NoneShort, Without, lowered}
+use Rattle.clearing.specs.Balances.{Balanced, LastOf, NoneOf, NoneShort, Without, lowered}
 use Rattle.clearing.specs.Choices.{entry_at, key_at, live, Choice, Within, share, total, is_on, payer_of, receiver_of, size, left_out, Lawful, Covered, Greatest}
 use Rattle.clearing.specs.declared.entry.Entry.{Entry}
 use Rattle.clearing.proofs.Marks.{live_past}
@@ -32,16 +32,16 @@ some_entry side es K m h =
     reads true false w h = absurd (omega arith)
     reads false y w h = absurd (omega arith)
 
+module _ {ahead : Order} {cover : ℕ → ℕ} {es : List Entry} {K : Choice} {due funds : List ℕ} {count : ℕ} (s : State ahead cover es K due funds count)
+    (m : ℕ) (small : m < 64) (short : get_or funds m 0 < get_or due m 0) where
+  -- a member that is short has an entry
+  pub has_some : NoneOf es K m (length es) → ⊥
+  has_some none =
+      let p = some_entry payer_of es K m (omega (arith, s.balanced.payments m small)) in
+      none p.0 p.1 p.2 p.3
+
 module _ {ahead : Order} (strict : Strict ahead) {cover : ℕ → ℕ} {es : List Entry} {K : Choice} {due funds : List ℕ} {count : ℕ} (s : State ahead cover es K due funds count)
     (m : ℕ) (small : m < 64) (short : get_or funds m 0 < get_or due m 0) (r : ℕ) (last : LastOf ahead es K m (length es) r) where
-  pub found : r < length es
-  found =
-      let p = some_entry payer_of es K m (omega (arith, s.balanced.payments m small)) in
-      (last.others p.0 p.1 p.2 p.3).0
-
-  pub chosen : K r ≡ true
-  chosen = (last.own found).0
-
   in_table : (i : ℕ) → K i ≡ true → i < length es
   in_table i k =
       elim (cases_lt i (length es)) [
@@ -50,7 +50,7 @@ module _ {ahead : Order} (strict : Strict ahead) {cover : ℕ → ℕ} {es : Lis
       ]
 
   is_last : Last ahead es K m r
-  is_last = record { chosen = chosen; own = (last.own found).1; others = λ i k e ne. (last.others i (in_table i k) k e).1 ne }
+  is_last = record { chosen = last.chosen; own = last.own; others = λ i k. last.others i (in_table i k) k }
 
   gone : (D : Choice) → Lawful ahead es D → Covered cover es D → D r ≡ true → ⊥
   gone D l v =
@@ -58,7 +58,7 @@ module _ {ahead : Order} (strict : Strict ahead) {cover : ℕ → ℕ} {es : Lis
       (omega (arith, short, s.balanced.payments m small, s.balanced.means m small)) D l v (s.above D l v)
 
   pub worth_le : (side : Entry → ℕ) → (entry_at es r).worth ≤ total (is_on side (side (entry_at es r))) es K
-  worth_le side = share_le side es K r found chosen
+  worth_le side = share_le side es K r last.within last.chosen
 
   module _ (K' : Choice) (w : Without K K' r) where
     next_lawful : Lawful ahead es K'
@@ -79,8 +79,8 @@ module _ {ahead : Order} (strict : Strict ahead) {cover : ℕ → ℕ} {es : Lis
 
     one_more : Without (left_out es K') (left_out es K) r
     one_more = record {
-      was = and_from (live es r) (not (K' r)) (s.lawful.alive r chosen) (ap not w.out);
-      out = and_right (live es r) (not (K r)) (ap not chosen);
+      was = and_from (live es r) (not (K' r)) (s.lawful.alive r last.chosen) (ap not w.out);
+      out = and_right (live es r) (not (K r)) (ap not last.chosen);
       others = λ i ne. ap (λ (b : Bool). live es i && not b) (sym (w.others i ne));
     }
 
@@ -94,16 +94,16 @@ module _ {ahead : Order} (strict : Strict ahead) {cover : ℕ → ℕ} {es : Lis
         | inr ne ↦ w.others i ne ∙ s.above D l v i d
       ];
       balanced = record {
-        payments = λ k lt. omega (arith, tally_less payer_of es K K' r found w due k 0 s.long_due lt (omega (arith, s.balanced.payments k lt)));
-        means = λ k lt. tally_less receiver_of es K K' r found w funds k (cover k) s.long_funds lt (s.balanced.means k lt);
+        payments = λ k lt. omega (arith, tally_less payer_of es K K' r last.within w due k 0 s.long_due lt (omega (arith, s.balanced.payments k lt)));
+        means = λ k lt. tally_less receiver_of es K K' r last.within w funds k (cover k) s.long_funds lt (s.balanced.means k lt);
       };
       long_due = length-set _ _ _ ∙ s.long_due;
       long_funds = length-set _ _ _ ∙ s.long_funds;
-      counted = omega (arith, s.counted, size_without es (left_out es K') (left_out es K) r found one_more);
+      counted = omega (arith, s.counted, size_without es (left_out es K') (left_out es K) r last.within one_more);
     }
 
     pub less : size es K' < size es K
-    less = omega (arith, size_without es K K' r found w)
+    less = omega (arith, size_without es K K' r last.within w)
 
 -- nobody is short
 pub ended : {ahead : Order} {cover : ℕ → ℕ} {es : List Entry} {K : Choice} {due funds : List ℕ} {count : ℕ} → State ahead cover es K due funds count →

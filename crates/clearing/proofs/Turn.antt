@@ -8,16 +8,16 @@ use Rattle.clearing.specs.Table.{entries, marks, kept}
 use Rattle.clearing.specs.declared.entry.Entry.{Entry}
 use Rattle.clearing.specs.declared.place.Place.{Place}
 use Rattle.clearing.proofs.Marks.{entries_long, unmarked}
-use Rattle.clearing.proofs.State.{State, found, chosen, next, less}
+use Rattle.clearing.proofs.State.{State, next, less}
 
 module _ {ahead : Order} (strict : Strict ahead) {cover : ℕ → ℕ} (ps : List Place) {due funds : List ℕ} {count : ℕ} (s : State ahead cover (entries ps) (kept ps) due funds count)
     (m : ℕ) (small : m < 64) (short : get_or funds m 0 < get_or due m 0) (r : ℕ) (last : LastOf ahead (entries ps) (kept ps) m (length (entries ps)) r) where
   pub in_table : r < length ps
-  in_table = omega (arith, found strict s m small short r last, entries_long ps)
+  in_table = omega (arith, last.within, entries_long ps)
 
   module _ (qs : List Place) (same : entries qs ≡ entries ps) (mark : marks qs ≡ set (marks ps) r false) where
     pub taken_out : Without (kept ps) (kept qs) r
-    taken_out = unmarked ps qs r in_table (chosen strict s m small short r last) mark
+    taken_out = unmarked ps qs r in_table last.chosen mark
 
     pub fewer : size (entries qs) (kept qs) < size (entries ps) (kept ps)
     fewer = subst (λ (es : List Entry). size es (kept qs) < size (entries ps) (kept ps)) (sym same) (less strict s m small short r last (kept qs) taken_out)

@@ -3,8 +3,9 @@
 use Rattle.std.specs.Prelude.{◌≡◌, ℕ, ◌+◌, ◌-◌, ◌*◌, ◌%◌, ◌<◌, ◌≤◌, Bool, true, false, ◌&&◌, ◌||◌, ◌⊎◌, List, length, ◌==◌, nat_lt, slice_index}
 use Rattle.rules.specs.Order.{Order}
 use Rattle.clearing.specs.Choices.{Choice, entry_at, key_at}
+use Rattle.clearing.specs.Table.{entries}
 use Rattle.clearing.specs.declared.entry.Entry.{Entry}
-use Rattle.clearing.specs.declared.lanes.Lanes.{Lanes}
+use Rattle.clearing.specs.declared.place.Place.{Place}
 
 -- the entry of the second number stands behind that of the first, or there is none of the first
 abbrev pub comes_after : Order → List Entry → ℕ → ℕ → Bool
@@ -34,10 +35,6 @@ pub record Laned (ahead : Order) (es : List Entry) (C : Choice) (n : ℕ) (tops 
 abbrev pub Narrow : List ℕ → ℕ → Type 0
 Narrow tops widest = (l : ℕ) → widest ≤ l % 4 → slice_index tops l ≡ 0
 
--- where all found a lane, all chosen entries lie in lanes
-pub record Ready (ahead : Order) (es : List Entry) (C : Choice) (lanes : Lanes) : Type 0 where
-  pub long_tops : length lanes.tops ≡ 256
-  pub long_below : length lanes.below ≡ 4096
-  pub few : lanes.widest ≤ 4
-  pub narrow : Narrow lanes.tops lanes.widest
-  pub laned : lanes.complete ≡ true → Laned ahead es C (length es) lanes.tops lanes.below
+-- all chosen entries lie in lanes
+abbrev pub AllLaned : Order → List Place → Choice → List ℕ → List ℕ → Type 0
+AllLaned ahead ps C tops below = Laned ahead (entries ps) C (length (entries ps)) tops below

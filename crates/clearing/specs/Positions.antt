@@ -1,9 +1,7 @@
 -- Positions over a choice of entries, of one member and between two.
 use Rattle.std.specs.Prelude.{ℕ, zero, suc, Bool, ◌&&◌, List, ℤ, pos, ◌+ℤ◌, ◌-ℤ◌, ◌==◌}
-use Rattle.clearing.specs.Choices.{Choice, is_on, paid, payer_of, received, receiver_of, total}
+use Rattle.clearing.specs.Choices.{Choice, paid, received, total}
 use Rattle.clearing.specs.declared.entry.Entry.{Entry}
-use Rattle.clearing.specs.declared.positions.Part.{Part}
-use Rattle.clearing.specs.declared.positions.Part.TheVariants.{PaidBy, ReceivedBy, Between}
 
 -- f 0 + .. + f (n - 1)
 unfoldable pub signed_up_to : (ℕ → ℤ) → ℕ → ℤ
@@ -24,9 +22,3 @@ paid_to es C payer receiver = total (is_between payer receiver) es C
 -- the position that counts only what passes between two members, seen from the first
 abbrev pub bilateral : List Entry → Choice → ℕ → ℕ → ℤ
 bilateral es C a b = pos (paid_to es C b a) -ℤ pos (paid_to es C a b)
-
--- the entries that a sum is over
-abbrev pub is_in : Part → Entry → Bool
-is_in (PaidBy m) e = is_on payer_of m e
-is_in (ReceivedBy m) e = is_on receiver_of m e
-is_in (Between payer receiver) e = is_between payer receiver e

@@ -1,92 +1,70 @@
 // The clearing: all live entries are kept at first, and while a member is short, its last kept entry is withdrawn.
-ghost use Rattle.std.specs.Prelude.{◌≡◌, ℕ, ◌+◌, ◌<◌, ◌≤◌, min, false, T, length, drop, pos, MatchOption, slice_index, slice_set};
-ghost use Rattle.clearing.specs.Balances.{Balanced, NoneShort, Short, lowered};
-ghost use Rattle.clearing.specs.Choices.{NowhereElse, entry_at, live, paid, received};
+ghost use Rattle.std.specs.Prelude.{◌≡◌, ℕ, ◌+◌, ◌<◌, ◌≤◌, min, false, length, drop, pos, IfSome, slice_index, slice_set};
+ghost use Rattle.clearing.specs.Balances.{Balanced, LastKept, Without, dues, lowered, means};
+ghost use Rattle.clearing.specs.Choices.{Choice, NowhereElse, entry_at, live, paid, received};
+ghost use Rattle.clearing.specs.Lanes.{AllLaned};
 ghost use Rattle.clearing.specs.Positions.{position, signed_up_to};
 ghost use Rattle.clearing.specs.Table.{Cleared, cover_of, cover_on_roll, entries, front, kept, marks};
 
+use crate::balances::Balances;
 use crate::covers::Covers;
+use crate::fronts::front_len;
 use crate::lanes::Lanes;
-use crate::place::{MEMBERS, Place, front_len};
+use crate::place::Place;
+use crate::ranked::Ranked;
 use rules::cover::CoverSource;
 use rules::ranking::Ranking;
-
-// What each member is to pay of the kept entries, and what it has to pay it from: its cover and its kept receipts.
-#[derive(Clone, Copy)]
-struct Balances {
-    due: [u64; MEMBERS],
-    funds: [u64; MEMBERS],
-}
 
 // Keeps every live entry, in one pass that adds up the balances too.
 fn keep_live(covers: &Covers, places: &mut [Place]) -> Balances
     requires { length places.old ≤ 4096 }
     ensures entries { entries places.new ≡ entries places.old }
     ensures kept { (i : ℕ) → kept places.new i ≡ live (entries places.old) i }
-    ensures balanced { Balanced (cover_of covers.now) (entries places.old) (live (entries places.old)) result.due result.funds }
+    ensures balanced { Balanced (cover_of covers.now) (entries places.old) (live (entries places.old)) (dues result.by_member) (means result.by_member) }
 {
-    let mut due = [0; MEMBERS];
-    let mut funds = covers.amounts;
-    for i in 0..places.len() {
-        let entry = places[i].entry;
-        let live = entry.is_live();
-        places[i].kept = live;
+    let mut balances = Balances::of(covers);
+    for place in places.iter_mut() {
+        let live = place.entry.is_live();
+        place.kept = live;
         if live {
-            due[entry.payer as usize] += entry.worth as u64;
-            funds[entry.receiver as usize] += entry.worth as u64;
+            balances.add(place);
         }
     }
-    Balances { due, funds }
+    balances
 }
 
-// The first member that is to pay more than it has to pay from.
-fn find_short(balances: &Balances) -> Option<usize>
-    ensures { MatchOption result (NoneShort balances.now.due balances.now.funds) (Short balances.now.due balances.now.funds) }
+// The place of the member's last kept entry, which is taken off the lanes where there are lanes.
+fn take_last<R: Ranking>(
+    lanes: &mut Option<Lanes>,
+    ranked: &Ranked<'_, R>,
+    member: usize,
+) -> Option<usize>
+    requires member { member < 64 }
+    requires laned { IfSome lanes.old (λ ls. AllLaned (R.Ranking.ahead ranked.now.rule.now) ranked.now.places.now (kept ranked.now.places.now) ls.tops ls.below) }
+    ensures last { LastKept (R.Ranking.ahead ranked.now.rule.now) ranked.now.places.now member result }
+    ensures laned { IfSome result (λ r. (D : Choice) → Without (kept ranked.now.places.now) D r → IfSome lanes.new (λ ls. AllLaned (R.Ranking.ahead ranked.now.rule.now) ranked.now.places.now D ls.tops ls.below)) }
 {
-    for m in 0..MEMBERS {
-        if balances.funds[m] < balances.due[m] {
-            return Some(m);
-        }
+    match lanes {
+        Some(lanes) => lanes.take_last(ranked, member),
+        None => ranked.last_of(member),
     }
-    None
 }
 
-// Whether the member at a place on the roll is to pay more than it has to pay from.
-fn is_short(balances: &Balances, member: usize) -> bool
-    ensures { T result → Short balances.now.due balances.now.funds member }
-{
-    member < MEMBERS && balances.funds[member] < balances.due[member]
-}
-
-// A member that is short. The two parties of the entry withdrawn last are looked at first, since only they can have come to be so.
-fn next_short(balances: &Balances, payer: usize, receiver: usize) -> Option<usize>
-    ensures { MatchOption result (NoneShort balances.now.due balances.now.funds) (Short balances.now.due balances.now.funds) }
-{
-    if is_short(balances, payer) {
-        return Some(payer);
-    }
-    if is_short(balances, receiver) {
-        return Some(receiver);
-    }
-    find_short(balances)
-}
-
-// Withdraws the entry at a place, takes it out of what its payer pays and its receiver has, and says who the receiver is.
+// Withdraws the entry at a place, takes it out of the balances, and says who its receiver is.
 fn withdraw(places: &mut [Place], balances: &mut Balances, at: usize) -> usize
     requires within { at < length places.old }
-    requires paid { (entry_at (entries places.old) at).worth ≤ slice_index balances.old.due (entry_at (entries places.old) at).payer }
-    requires received { (entry_at (entries places.old) at).worth ≤ slice_index balances.old.funds (entry_at (entries places.old) at).receiver }
+    requires paid { (entry_at (entries places.old) at).worth ≤ slice_index (dues balances.old.by_member) (entry_at (entries places.old) at).payer }
+    requires received { (entry_at (entries places.old) at).worth ≤ slice_index (means balances.old.by_member) (entry_at (entries places.old) at).receiver }
     ensures entries { entries places.new ≡ entries places.old }
     ensures marks { marks places.new ≡ slice_set (marks places.old) at false }
-    ensures due { balances.new.due ≡ lowered balances.old.due (entry_at (entries places.old) at).payer (entry_at (entries places.old) at).worth }
+    ensures due { dues balances.new.by_member ≡ lowered (dues balances.old.by_member) (entry_at (entries places.old) at).payer (entry_at (entries places.old) at).worth }
     ensures receiver { result ≡ (entry_at (entries places.old) at).receiver }
-    ensures funds { balances.new.funds ≡ lowered balances.old.funds (entry_at (entries places.old) at).receiver (entry_at (entries places.old) at).worth }
+    ensures funds { means balances.new.by_member ≡ lowered (means balances.old.by_member) (entry_at (entries places.old) at).receiver (entry_at (entries places.old) at).worth }
 {
-    let entry = places[at].entry;
-    balances.due[entry.payer as usize] -= entry.worth as u64;
-    balances.funds[entry.receiver as usize] -= entry.worth as u64;
+    let place = places[at];
+    balances.take_out(&place);
     places[at].kept = false;
-    entry.receiver as usize
+    usize::from(place.entry.receiver)
 }
 
 // Clears all the places. The last kept entry of a short member is in no lawful covered choice: with it such a choice would hold all that the
@@ -96,12 +74,15 @@ fn clear_all<R: Ranking>(rule: &R, covers: &Covers, places: &mut [Place]) -> usi
     ensures { Cleared (R.Ranking.ahead rule.now) (cover_of covers.now) places.old places.new result }
 {
     let mut balances = keep_live(covers, places);
-    let mut lanes = Lanes::arranged(rule, places, find_short(&balances).is_some());
+    let mut lanes = match balances.find_short() {
+        Some(_) => Lanes::filled(&Ranked { rule, places }),
+        None => None,
+    };
     let mut count = 0;
     let mut payer = 0;
     let mut receiver = 0;
-    while let Some(member) = next_short(&balances, payer, receiver) {
-        let last = lanes.take_last(rule, places, member);
+    while let Some(member) = balances.next_short(payer, receiver) {
+        let last = take_last(&mut lanes, &Ranked { rule, places }, member).unwrap();
         payer = member;
         receiver = withdraw(places, &mut balances, last);
         count += 1;

@@ -1,5 +1,5 @@
 // A place of the table: an entry within the limits of the house, and whether the last clearing kept it.
-ghost use Rattle.std.specs.Prelude.{◌≡◌, ◌<◌, ◌≤◌, min, false};
+ghost use Rattle.std.specs.Prelude.{◌≡◌, ◌<◌, ◌≤◌, ◌&&◌, false, ◌==◌};
 ghost use Rattle.clearing.specs.Choices.{no_entry};
 
 use crate::entry::Entry;
@@ -42,11 +42,11 @@ impl Place {
             kept: false,
         }
     }
-}
 
-// How many of `len` places a clearing of the first `held` goes over.
-pub(crate) fn front_len(held: usize, len: usize) -> usize
-    ensures { result ≡ min (min held 4096) len }
-{
-    held.min(CAPACITY).min(len)
+    // Whether the entry is kept and the member pays it.
+    pub(crate) fn is_kept_of(&self, member: usize) -> bool
+        ensures { result ≡ (self.now.kept && self.now.entry.payer == member) }
+    {
+        self.kept && usize::from(self.entry.payer) == member
+    }
 }

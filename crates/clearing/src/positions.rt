@@ -1,51 +1,26 @@
 // Positions over the kept entries: what a member has received minus what it has paid.
-ghost use Rattle.std.specs.Prelude.{◌≡◌, ◌≤◌, ◌&&◌, if◌then◌else◌};
+ghost use Rattle.std.specs.Prelude.{◌≡◌, ◌≤◌, Bool};
+ghost use Rattle.std.specs.Fn.{FnReturnsAt};
 ghost use Rattle.clearing.specs.Choices.{total};
-ghost use Rattle.clearing.specs.Positions.{bilateral, is_in, position};
+ghost use Rattle.clearing.specs.Positions.{bilateral, position};
 ghost use Rattle.clearing.specs.Table.{entries, front, kept};
+ghost use Rattle.clearing.specs.declared.entry.Entry.{Entry};
 
 use crate::entry::Entry;
-use crate::place::{Place, front_len};
+use crate::fronts::front;
+use crate::place::Place;
 
-// The entries that a sum is over, by places on the roll.
-#[derive(Clone, Copy)]
-enum Part {
-    PaidBy(u8),
-    ReceivedBy(u8),
-    // Payer and receiver.
-    Between(u8, u8),
-}
-
-// Whether the entry belongs to the part.
-fn is_in(entry: Entry, part: Part) -> bool
-    ensures { result ≡ is_in part entry }
-{
-    match part {
-        Part::PaidBy(member) => entry.payer == member,
-        Part::ReceivedBy(member) => entry.receiver == member,
-        Part::Between(payer, receiver) => entry.payer == payer && entry.receiver == receiver,
-    }
-}
-
-// What a place brings to the sum.
-fn share(place: Place, part: Part) -> u64
-    ensures { result ≡ (if place.kept && is_in part place.entry then place.entry.worth else 0) }
-{
-    if place.kept && is_in(place.entry, part) {
-        place.entry.worth as u64
-    } else {
-        0
-    }
-}
-
-// The worth of the kept entries of that part among the first `held` places.
-fn sum(places: &[Place], held: usize, part: Part) -> u64
-    ensures sum { result ≡ total (is_in part) (entries (front held places.now)) (kept (front held places.now)) }
+// The worth of the kept entries that pass a test, among the first `held` places.
+fn sum<F: Fn(&Entry) -> bool>(places: &[Place], held: usize, passes: F) -> u64
+    requires { F.IsAlwaysCallable passes }
+    ensures sum { (test : Entry → Bool) → ((e : Entry) (r : Bool) → FnReturnsAt F.Fn passes e r → r ≡ test e) → result ≡ total test (entries (front held places.now)) (kept (front held places.now)) }
     ensures low { result ≤ 409600000000 }
 {
     let mut all = 0;
-    for i in 0..front_len(held, places.len()) {
-        all += share(places[i], part);
+    for place in front(places, held) {
+        if place.kept && passes(&place.entry) {
+            all += u64::from(place.entry.worth);
+        }
     }
     all
 }
@@ -54,8 +29,8 @@ fn sum(places: &[Place], held: usize, part: Part) -> u64
 pub fn position(places: &[Place], held: usize, member: u8) -> i64
     ensures { result ≡ position (entries (front held places.now)) (kept (front held places.now)) member }
 {
-    let received = sum(places, held, Part::ReceivedBy(member));
-    let paid = sum(places, held, Part::PaidBy(member));
+    let received = sum(places, held, |entry| entry.receiver == member);
+    let paid = sum(places, held, |entry| entry.payer == member);
     received as i64 - paid as i64
 }
 
@@ -63,7 +38,15 @@ pub fn position(places: &[Place], held: usize, member: u8) -> i64
 pub fn bilateral(places: &[Place], held: usize, a: u8, b: u8) -> i64
     ensures { result ≡ bilateral (entries (front held places.now)) (kept (front held places.now)) a b }
 {
-    let from_b = sum(places, held, Part::Between(b, a));
-    let to_b = sum(places, held, Part::Between(a, b));
+    let from_b = sum(
+        places,
+        held,
+        |entry| entry.payer == b && entry.receiver == a,
+    );
+    let to_b = sum(
+        places,
+        held,
+        |entry| entry.payer == a && entry.receiver == b,
+    );
     from_b as i64 - to_b as i64
 }

@@ -10,111 +10,90 @@ use terms::refusal::Refusal;
 pub enum Answer {
     Done,
     Refused(Refusal),
-    // An accepted file, and the whole outcome buffer.
-    Taken(Taken, Vec<u8>),
-    // A refused file, and the whole outcome buffer.
-    Faulted(Fault, Vec<u8>),
+    // What came of a file, and the whole outcome buffer.
+    Intake(Result<Taken, Fault>, Vec<u8>),
     // How many records a clearing withdrew.
     Withdrawn(usize),
     Position(i64),
     Amount(u64),
     // What a check of the writer says.
-    Checked(Option<Refusal>),
-    // A file or a result: its length, and the whole buffer.
-    Written(usize, Vec<u8>),
-    // No result, and the whole buffer.
-    Unwritten(Refusal, Vec<u8>),
+    Checked(Result<(), Refusal>),
+    // The length of a file or a result, or why there is no result, and the whole buffer.
+    Written(Result<usize, Refusal>, Vec<u8>),
 }
 
-fn show_code<W: fmt::Write>(f: &mut fmt::Formatter<W>, refusal: Option<Refusal>) -> fmt::Result {
-    let code = match refusal {
-        Some(refusal) => refusal.code(),
-        None => 0,
-    };
-    write!(f, "code {code}")
-}
-
-fn show_taken<W: fmt::Write>(
+fn show_intake<W: fmt::Write>(
     f: &mut fmt::Formatter<W>,
-    rows: Taken,
+    res: &Result<Taken, Fault>,
     outcomes: &[u8],
 ) -> fmt::Result {
-    let zeros = rows.taken;
-    let others = rows.turned_away;
-    let bytes = Hexadecimal(outcomes);
-    write!(f, "taken {zeros} {others} {bytes}")
+    match res {
+        Ok(rows) => write!(f, "taken {} {} ", rows.taken, rows.turned_away)?,
+        Err(fault) => {
+            let code = u8::from(fault.cause);
+            let layer = u8::from(fault.layer);
+            write!(f, "refused {code} {layer} {} ", fault.place)?
+        }
+    }
+    write!(f, "{}", Hexadecimal(outcomes))
 }
 
-fn show_fault<W: fmt::Write>(
+fn show_written<W: fmt::Write>(
     f: &mut fmt::Formatter<W>,
-    fault: Fault,
-    outcomes: &[u8],
+    res: &Result<usize, Refusal>,
+    buffer: &[u8],
 ) -> fmt::Result {
-    let code = fault.cause.code();
-    let layer = fault.layer.number();
-    let place = fault.place;
-    let bytes = Hexadecimal(outcomes);
-    write!(f, "refused {code} {layer} {place} {bytes}")
+    match res {
+        Ok(length) => write!(f, "length {length} ")?,
+        Err(refusal) => write!(f, "refused {} ", u8::from(*refusal))?,
+    }
+    write!(f, "{}", Hexadecimal(buffer))
 }
 
 impl fmt::Display for Answer {
     fn fmt<W: fmt::Write>(&self, f: &mut fmt::Formatter<W>) -> fmt::Result {
         match self {
-            Answer::Done => write!(f, "ok"),
-            Answer::Refused(refusal) => {
-                let code = refusal.code();
-                write!(f, "refused {code}")
-            }
-            Answer::Taken(taken, outcomes) => show_taken(f, *taken, outcomes),
-            Answer::Faulted(fault, outcomes) => show_fault(f, *fault, outcomes),
+            Answer::Done => f.write_str("ok"),
+            Answer::Refused(refusal) => write!(f, "refused {}", u8::from(*refusal)),
+            Answer::Intake(res, outcomes) => show_intake(f, res, outcomes),
             Answer::Withdrawn(count) => write!(f, "withdrawn {count}"),
             Answer::Position(amount) => write!(f, "{amount}"),
             Answer::Amount(amount) => write!(f, "{amount}"),
-            Answer::Checked(refusal) => show_code(f, *refusal),
-            Answer::Written(length, buffer) => {
-                let bytes = Hexadecimal(buffer);
-                write!(f, "length {length} {bytes}")
-            }
-            Answer::Unwritten(refusal, buffer) => {
-                let code = refusal.code();
-                let bytes = Hexadecimal(buffer);
-                write!(f, "refused {code} {bytes}")
-            }
+            Answer::Checked(Ok(())) => f.write_str("code 0"),
+            Answer::Checked(Err(refusal)) => write!(f, "code {}", u8::from(*refusal)),
+            Answer::Written(res, buffer) => show_written(f, res, buffer),
         }
     }
 }
 
-impl From<Result<(), Refusal>> for Answer {
-    fn from(res: Result<(), Refusal>) -> Answer {
-        match res {
-            Ok(()) => Answer::Done,
-            Err(refusal) => Answer::Refused(refusal),
-        }
+impl From<()> for Answer {
+    fn from(_done: ()) -> Answer {
+        Answer::Done
     }
 }
 
-impl From<Result<i64, Refusal>> for Answer {
-    fn from(res: Result<i64, Refusal>) -> Answer {
-        match res {
-            Ok(amount) => Answer::Position(amount),
-            Err(refusal) => Answer::Refused(refusal),
-        }
+impl From<i64> for Answer {
+    fn from(position: i64) -> Answer {
+        Answer::Position(position)
     }
 }
 
-impl From<Result<u64, Refusal>> for Answer {
-    fn from(res: Result<u64, Refusal>) -> Answer {
-        match res {
-            Ok(amount) => Answer::Amount(amount),
-            Err(refusal) => Answer::Refused(refusal),
-        }
+impl From<u64> for Answer {
+    fn from(amount: u64) -> Answer {
+        Answer::Amount(amount)
     }
 }
 
-impl From<Result<Mark, Refusal>> for Answer {
-    fn from(res: Result<Mark, Refusal>) -> Answer {
+impl From<Mark> for Answer {
+    fn from(mark: Mark) -> Answer {
+        Answer::Amount(u64::from(u8::from(mark)))
+    }
+}
+
+impl<T: Into<Answer>> From<Result<T, Refusal>> for Answer {
+    fn from(res: Result<T, Refusal>) -> Answer {
         match res {
-            Ok(mark) => Answer::Amount(u64::from(mark.number())),
+            Ok(answer) => answer.into(),
             Err(refusal) => Answer::Refused(refusal),
         }
     }

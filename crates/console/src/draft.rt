@@ -1,5 +1,8 @@
 // A file of the writer's commands. Its states are moved from call to call and cannot be kept between two lines, so that a draft keeps
 // what was put, and goes through the states again at each line.
+ghost use Rattle.std.specs.Prelude.{◌<◌, vec_len, vec_capacity};
+ghost use Rattle.std.specs.Option.{ForSome};
+
 use crate::files::buffer;
 use crate::misread::Misread;
 use memberfile::header::Header;
@@ -18,15 +21,18 @@ struct Batch {
 pub struct Draft {
     size: usize,
     header: Header,
+    // Those that are closed.
     batches: Vec<Batch>,
-    // Whether the last batch is still open.
-    in_batch: bool,
+    // The one that is open.
+    current: Option<Batch>,
+    // So that closing a batch takes no memory.
+    ghost room: { ForSome current (λ _. vec_len batches < vec_capacity batches) },
 }
 
 // What the writer answers to the newest opening or put, and the file as it would now be finished.
 #[derive(Drop)]
 pub struct Replay {
-    pub newest: Option<Refusal>,
+    pub newest: Result<(), Refusal>,
     pub buffer: Vec<u8>,
     pub len: usize,
 }
@@ -37,48 +43,45 @@ impl Draft {
             size,
             header,
             batches: Vec::new(heap),
-            in_batch: false,
+            current: None,
         }
     }
 
     pub fn in_batch(&self) -> bool {
-        self.in_batch
+        self.current.is_some()
     }
 
     pub fn open_batch(&mut self, heap: Global, number: u16) -> Result<(), Misread> {
-        if self.in_batch {
+        if self.in_batch() {
             return Err(Misread::BatchOpen);
         }
+        self.batches.reserve(1)?;
         let rows = Vec::new(heap);
-        self.batches.push(Batch { number, rows })?;
-        self.in_batch = true;
+        self.current = Some(Batch { number, rows });
         Ok(())
     }
 
     pub fn put(&mut self, row: Row) -> Result<(), Misread> {
-        if !self.in_batch {
-            return Err(Misread::NoBatchOpen);
-        }
-        let Some(batch) = self.batches.last_mut() else {
-            return Err(Misread::NoBatchOpen);
-        };
+        let batch = self.current.as_mut().ok_or(Misread::NoBatchOpen)?;
         batch.rows.push(row)?;
         Ok(())
     }
 
     pub fn close_batch(&mut self) -> Result<(), Misread> {
-        if !self.in_batch {
-            return Err(Misread::NoBatchOpen);
-        }
-        self.in_batch = false;
+        let batch = self.current.take().ok_or(Misread::NoBatchOpen)?;
+        self.batches.push(batch).unwrap();
         Ok(())
     }
 
     // Goes through the writer's states again, into a fresh buffer.
     pub fn replay(&self, heap: Global) -> Result<Replay, Misread> {
         let mut bytes = buffer(heap, self.size)?;
-        let mut newest = None;
-        let len = put_again(self.header, &self.batches, &mut newest, &mut bytes);
+        let mut newest = check_file(&bytes, self.header);
+        let mut file = FileOpen::open(&mut bytes, self.header);
+        for batch in self.batches.iter().chain(self.current.as_slice()) {
+            file = put_batch(file, batch, &mut newest);
+        }
+        let len = file.finish().len;
         Ok(Replay {
             newest,
             buffer: bytes,
@@ -88,27 +91,15 @@ impl Draft {
 }
 
 // Puts a batch as it was put before, the refused rows too.
-fn put_batch<'b>(file: FileOpen<'b>, batch: &Batch, newest: &mut Option<Refusal>) -> FileOpen<'b> {
-    *newest = file.check_batch(batch.number).err();
+fn put_batch<'b>(
+    file: FileOpen<'b>,
+    batch: &Batch,
+    newest: &mut Result<(), Refusal>,
+) -> FileOpen<'b> {
+    *newest = file.check_batch(batch.number);
     let mut open = file.open_batch(batch.number);
-    for row in batch.rows.iter() {
-        *newest = open.put(*row).err();
+    for row in &batch.rows {
+        *newest = open.put(*row);
     }
     open.close()
-}
-
-// Puts the batches one after another, and gives the length of the file.
-fn put_again(
-    header: Header,
-    batches: &[Batch],
-    newest: &mut Option<Refusal>,
-    out: &mut [u8],
-) -> usize {
-    *newest = check_file(out, header).err();
-    let mut file = FileOpen::open(out, header);
-    for batch in batches {
-        file = put_batch(file, batch, newest);
-    }
-    let finished = file.finish();
-    finished.len
 }

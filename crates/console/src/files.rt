@@ -11,12 +11,9 @@ const BUFFER_MOST: usize = 16_777_216;
 
 // The bytes of a word: hexadecimal, or those of the file at the path behind an @.
 pub fn bytes_of(rt: &HostRuntime, word: &str) -> Result<Vec<u8>, Misread> {
-    let Some(path) = word.strip_prefix('@') else {
-        return bytes_in(rt.alloc(), word);
-    };
-    match fs::read(rt, path) {
-        Ok(bytes) => Ok(bytes),
-        Err(_) => Err(Misread::Path),
+    match word.strip_prefix('@') {
+        Some(path) => fs::read(rt, path).map_err(|_| Misread::Path),
+        None => bytes_in(rt.alloc(), word),
     }
 }
 

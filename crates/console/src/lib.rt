@@ -8,4 +8,5 @@ mod files;
 pub mod hexadecimal;
 pub mod misread;
 pub mod names;
+pub mod records;
 pub mod words;

@@ -18,9 +18,8 @@ use Rattle.session.specs.Files.{admitted, file_refusal, file_rules, sender_of, v
 use Rattle.session.specs.Ledger.{Ledger, place_on}
 use Rattle.session.specs.Refusals.{unless}
 use Rattle.session.specs.Rows.{after_row, after_rows, entries_by, entry_for, presentation_refusal, presentation_rules, presentation_taken, put_in, return_taken, struck_in}
-use Rattle.session.specs.declared.session.Sender.{Sender}
-use Rattle.session.proofs.Orders.{passed}
-use Rattle.session.proofs.Within.{unless_ok}
+use Rattle.session.specs.Senders.{SenderValue}
+use Rattle.session.proofs.Orders.{passed, unless_ok}
 use Rattle.desk.specs.Books.{Book, Meant, after, after_sent, clears, sends}
 
 -- payer and receiver of each entry are among the first n places
@@ -66,7 +65,7 @@ pick_on : (n : ℕ) (b : Bool) (x y : ℕ) → x < n → y < n → cond b x y < 
 pick_on n true x y h k = h
 pick_on n false x y h k = k
 
-module _ (day : Day) (m : Meaning) (s : Sender) (from : s.place < length day.roll) where
+module _ (day : Day) (m : Meaning) (s : SenderValue) (from : s.place < length day.roll) where
   on_put : (es : List Entry) (p : PresentationV) (r : Result Entry Refusal) → presentation_taken day m s es p ≡ r → AllOn (length day.roll) es → AllOn (length day.roll) (entries_by es (put_in es r))
   on_put es p (Err c) e a = a
   on_put es p (Ok x) e a =

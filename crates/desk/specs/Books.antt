@@ -10,9 +10,8 @@ use Rattle.clearing.specs.Table.{cover_on_roll}
 use Rattle.clearing.specs.declared.entry.Entry.{Entry}
 use Rattle.session.specs.Files.{after_file, answered, verdict}
 use Rattle.session.specs.Ledger.{Ledger, opened}
-use Rattle.session.specs.declared.session.Taken.{Taken as TakenV}
 use Rattle.desk.specs.declared.calls.Answer.{Answer}
-use Rattle.desk.specs.declared.calls.Answer.TheVariants.{Taken, Refused, Withdrawn}
+use Rattle.desk.specs.declared.calls.Answer.TheVariants.{Intake, Withdrawn}
 
 -- what a call means: an instrument, a file's bytes and the room for outcomes, or a ranking rule and the cover of each member code
 pub data Meant : Type 0 where
@@ -50,10 +49,6 @@ after b (clears ahead cover) = record { ledger = b.ledger; state = settled ahead
 abbrev pub run : Day → ℕ → List Meant → Book
 run day capacity h = fold after (fresh day capacity) h
 
-abbrev pub file_answer : Result TakenV Fault → Answer
-file_answer (Ok t) = Taken t
-file_answer (Err x) = Refused x
-
 -- a clearing's answer is the number of live entries that the greatest choice leaves out
 pub record Counted (ahead : Order) (cover : ℕ → ℕ) (es : List Entry) (a : Answer) : Type 0 where
   pub choice : Choice
@@ -62,7 +57,7 @@ pub record Counted (ahead : Order) (cover : ℕ → ℕ) (es : List Entry) (a : 
 
 -- what the book answers to a call
 abbrev pub Says : Book → Meant → Answer → Type 0
-Says b (sends m bytes room) a = a ≡ file_answer (answered b.ledger m (verdict b.ledger m bytes room))
+Says b (sends m bytes room) a = a ≡ Intake (answered b.ledger m (verdict b.ledger m bytes room))
 Says b (clears ahead cover) a = Counted ahead (covers_by b cover) b.ledger.entries a
 
 -- one answer for each call

@@ -7,6 +7,7 @@ use Rattle.clearing.specs.Choices.{Choice, Covered, Lawful, Within, entry_at, pa
 use Rattle.clearing.specs.Positions.{signed_up_to}
 use Rattle.clearing.specs.Table.{cover_of}
 use Rattle.clearing.specs.declared.entry.Entry.{Entry}
+use Rattle.session.specs.Parts.{covers_of}
 use Rattle.session.specs.Questions.{mark_of, position_at}
 use Rattle.session.specs.declared.session.Session.{Session}
 use Rattle.session.specs.declared.session.mark.Mark.{Mark}
@@ -32,7 +33,7 @@ pub record Sound (members : ℕ) (cover : ℕ → ℕ) (es : List Entry) (s : Se
   pub only_returned : (i : ℕ) → i < length es → mark_of s i ≡ Returned → (entry_at es i).returned ≡ true
   pub others : (i : ℕ) → i < length es → (entry_at es i).returned ≡ false → (mark_of s i ≡ Kept) ⊎ (mark_of s i ≡ Withdrawn)
   pub zero_sum : signed_up_to (position_at s) members ≡ pos 0
-  pub stored : (m : ℕ) → cover_of s.covers m ≡ cover m
+  pub stored : (m : ℕ) → cover_of (covers_of s) m ≡ cover m
   pub paid_for : (m : ℕ) → m < 64 → paid es (kept_in s) m ≤ cover m + received es (kept_in s) m
 
 -- What a clearing keeps is a lawful and covered choice of unreturned records, and every other lawful and covered choice keeps no record that

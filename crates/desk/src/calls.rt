@@ -19,9 +19,8 @@ pub enum Call<'a, I, R, C> {
 
 #[derive(Clone, Copy)]
 pub enum Answer {
-    // How many rows of the file were taken, and how many got a code.
-    Taken(Taken),
-    Refused(Fault),
+    // How many rows of the file were taken and how many got a code, or why the whole file was refused.
+    Intake(Result<Taken, Fault>),
     // How many records the clearing withdrew.
     Withdrawn(usize),
 }

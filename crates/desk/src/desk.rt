@@ -1,11 +1,9 @@
 // One call, and a list of calls upon a newly opened session.
-ghost use Rattle.std.specs.Prelude.{◌≡◌, ℕ, min, List, [], ◌∷◌, ◌++◌, map, length, take, drop, vec_len};
-ghost use Rattle.desk.specs.Books.{Meant, Told, clears, fresh, sends};
-ghost use Rattle.desk.specs.Calls.{left_by, left_in, meaning};
-ghost use Rattle.desk.specs.Promises.{Promise};
-ghost use Rattle.desk.specs.Stands.{Does, Stands, Unmoved};
-ghost use Rattle.session.specs.Ledger.{ledger_of};
-ghost use Rattle.terms.specs.Dockets.{Day, day_of};
+ghost use Rattle.std.specs.Prelude.{◌≡◌, ℕ, min, List, map, length, take, drop, vec_len};
+ghost use Rattle.desk.specs.Books.{clears, sends};
+ghost use Rattle.desk.specs.Calls.{meaning};
+ghost use Rattle.desk.specs.Runs.{Leaves, Makes};
+ghost use Rattle.terms.specs.Dockets.{day_of};
 
 use crate::calls::{Answer, Call};
 use clearing::place::Place;
@@ -23,21 +21,15 @@ fn take_in<I: Instrument>(
     room: usize,
     out: &mut [u8],
 ) -> Answer
-    ensures does { Does (sends (I.Instrument.meaning instrument.now) file.now (min room (length out.old))) s.old s.new result }
-    ensures out { out.new ≡ left_in (ledger_of s.old) (sends (I.Instrument.meaning instrument.now) file.now (min room (length out.old))) out.old }
-    ensures unmoved { Unmoved result s.old s.new }
+    ensures { Makes (sends (I.Instrument.meaning instrument.now) file.now (min room (length out.old))) s.old s.new out.old out.new result }
 {
     let n = room.min(out.len());
-    match s.intake(instrument, file, &mut out[0..n]) {
-        Ok(taken) => Answer::Taken(taken),
-        Err(fault) => Answer::Refused(fault),
-    }
+    Answer::Intake(s.intake(instrument, file, &mut out[0..n]))
 }
 
 // Clears the session.
 fn settle<R: Ranking, C: CoverSource>(s: &mut Session, rule: &R, source: &C) -> Answer
-    ensures does { Does (clears (R.Ranking.ahead rule.now) (C.CoverSource.covers source.now)) s.old s.new result }
-    ensures unmoved { Unmoved result s.old s.new }
+    ensures { (out : List ℕ) → Makes (clears (R.Ranking.ahead rule.now) (C.CoverSource.covers source.now)) s.old s.new out out result }
 {
     Answer::Withdrawn(s.clear(rule, source))
 }
@@ -48,11 +40,7 @@ pub fn act<I: Instrument, R: Ranking, C: CoverSource>(
     call: &Call<'_, I, R, C>,
     out: &mut [u8],
 ) -> Answer
-    ensures does { Does (meaning I.Instrument.meaning R.Ranking.ahead C.CoverSource.covers (length out.old) call.now) s.old s.new result }
-    ensures out { out.new ≡ left_in (ledger_of s.old) (meaning I.Instrument.meaning R.Ranking.ahead C.CoverSource.covers (length out.old) call.now) out.old }
-    ensures unmoved { Unmoved result s.old s.new }
-    ensures stands { (day : Day) (n : ℕ) (h : List Meant) → Stands day n h s.old → Stands day n (h ++ (meaning I.Instrument.meaning R.Ranking.ahead C.CoverSource.covers (length out.old) call.now ∷ [])) s.new }
-    ensures promise { (day : Day) (n : ℕ) (h : List Meant) → Stands day n h s.old → Promise day n (h ++ (meaning I.Instrument.meaning R.Ranking.ahead C.CoverSource.covers (length out.old) call.now ∷ [])) s.new }
+    ensures { Makes (meaning I.Instrument.meaning R.Ranking.ahead C.CoverSource.covers (length out.old) call.now) s.old s.new out.old out.new result }
 {
     match call {
         Call::Intake {
@@ -73,16 +61,14 @@ pub fn replay<I: Instrument, R: Ranking, C: CoverSource>(
     answers: &mut [Answer],
 ) -> (Session, usize)
     ensures made { result.1 ≡ min (length calls.now) (length answers.old) }
-    ensures stands { Stands (day_of docket) (min (vec_len places) 4096) (map (meaning I.Instrument.meaning R.Ranking.ahead C.CoverSource.covers (length out.old)) (take result.1 calls.now)) result.0 }
-    ensures told { Told (fresh (day_of docket) (min (vec_len places) 4096)) (map (meaning I.Instrument.meaning R.Ranking.ahead C.CoverSource.covers (length out.old)) (take result.1 calls.now)) (take result.1 answers.new) }
-    ensures out { out.new ≡ left_by (fresh (day_of docket) (min (vec_len places) 4096)) (map (meaning I.Instrument.meaning R.Ranking.ahead C.CoverSource.covers (length out.old)) (take result.1 calls.now)) out.old }
+    ensures left { Leaves (day_of docket) (min (vec_len places) 4096) (map (meaning I.Instrument.meaning R.Ranking.ahead C.CoverSource.covers (length out.old)) (take result.1 calls.now)) result.0 (take result.1 answers.new) out.old out.new }
     ensures rest { drop result.1 answers.new ≡ drop result.1 answers.old }
-    ensures promise { Promise (day_of docket) (min (vec_len places) 4096) (map (meaning I.Instrument.meaning R.Ranking.ahead C.CoverSource.covers (length out.old)) (take result.1 calls.now)) result.0 }
 {
     let mut s = Session::open(docket, places);
     let n = calls.len().min(answers.len());
-    for i in 0..n {
-        answers[i] = act(&mut s, &calls[i], out);
+    // No `zip` with `answers.iter_mut()`: behind such an adapter a proof knows nothing of what was written.
+    for (i, call) in calls[..n].iter().enumerate() {
+        answers[i] = act(&mut s, call, out);
     }
     (s, n)
 }

@@ -1,9 +1,9 @@
 -- The encoding of a well-formed file is accepted, as that file.
-use Rattle.std.proofs.Common.{◌≡◌, ℕ, zero, suc, ◌+◌, ◌*◌, ◌<◌, true, cond, ◌&&◌, eqb, leb, List, [], ◌∷◌, ◌++◌, length, Some, None, Ok, Err, Result, sym, refl, ap, ◌∙◌, subst, append_assoc, append-nil, arith, length-append, eq-eqb}
+use Rattle.std.proofs.Common.{◌≡◌, ℕ, zero, suc, ◌+◌, ◌*◌, ◌<◌, ◌≤◌, true, cond, ◌&&◌, eqb, leb, List, [], ◌∷◌, ◌++◌, length, take, Some, None, Ok, Err, Option, Result, sym, refl, ap, ◌∙◌, subst, append_assoc, append-nil, arith, length-append, eq-eqb, le-ltb}
 use borrow.Author.Tests.{lt-leb}
 use Rattle.std.proofs.lemmas.List.{take_at, drop_at}
 use Rattle.wire.specs.Bytes.{in_bytes}
-use Rattle.wire.specs.Records.{first_record, at_place, piece, width, tag_byte, tag_of}
+use Rattle.wire.specs.Records.{first_record, at_place, behind_head, piece, width, tag_byte, tag_of}
 use Rattle.wire.specs.Values.{raw_header_in, batch_head_in, presentation_in, return_in, closing_in}
 use Rattle.terms.specs.Numbers.{batch_kind}
 use Rattle.wire.specs.Rows.{is_of, no_totals, plus, presentations, same_totals, tally}
@@ -29,7 +29,6 @@ use Rattle.memberfile.specs.declared.stage.Stage.{Stage}
 use Rattle.memberfile.specs.declared.stage.Stage.TheVariants.{BeforeHeader, Between, InBatch, AfterEnd}
 use Rattle.memberfile.specs.declared.stage.Moved.{Moved}
 use Rattle.wire.proofs.Codes.{number_in_bytes}
-use Rattle.wire.proofs.Heads.{behind_head_ok}
 use Rattle.exactness.proofs.Headers.{fits_header, header_back}
 use Rattle.memberfile.proofs.Turns.{run_on, judge_short}
 
@@ -96,6 +95,9 @@ tag_of_byte t_presentation = refl
 tag_of_byte t_return = refl
 tag_of_byte BatchEnd = refl
 tag_of_byte FileEnd = refl
+
+behind_head_ok : (o : Option Tag) (t : Tag) (n : ℕ) (vs : List ℕ) → o ≡ Some t → n ≡ width t → n ≤ length vs → behind_head o n vs ≡ Ok (piece t (take n vs))
+behind_head_ok o t n vs e m l = rw (e, eq-eqb n (width t) m, le-ltb (length vs) n l)
 
 pub first_written : (t : Tag) (v rest : List ℕ) → length v ≡ width t → first_record (enc_record t v ++ rest) ≡ Ok (piece t v)
 first_written t v rest l = behind_head_ok (tag_of (tag_byte t)) t (0 * 256 + width t) (v ++ rest) (tag_of_byte t) (omega arith) (omega (arith, length-append v rest)) ∙ ap (λ x. Ok (piece t x)) (take_at v rest (0 * 256 + width t) (omega arith))

@@ -1,4 +1,4 @@
-use Rattle.std.proofs.Common.{◌≡◌, ℕ, suc, ◌<◌, List, [], ◌∷◌, get_or, Ok, Err, Result, ap, arith}
+use Rattle.std.proofs.Common.{◌≡◌, ℕ, suc, ◌<◌, List, [], ◌∷◌, get_or, Ok, Err, Result, ap}
 use Rattle.wire.specs.Bytes.{Octets}
 use Rattle.memberfile.specs.Judge.{judge, summed}
 use Rattle.exactness.specs.Acceptance.{Exactly}
@@ -14,4 +14,4 @@ octets (b ∷ v) h = (h 0, octets v (λ i. h (suc i)))
 
 pub exactly : (bs : List ℕ) (r : Result Summary Fault) → Octets bs → r ≡ summed (judge bs) → Exactly bs r
 exactly bs (Ok m) o e = let j = summed_ok (judge bs) m e in let s = sound bs j.0 o j.1 in (j.0, s.0, s.1, j.2)
-exactly bs (Err x) o e = λ f w same. let j = summed_err (judge bs) x e in let a = accepts f w in let b = ap judge same in let z : ◌≡◌ {A = ℕ} 0 1 = cc in omega arith
+exactly bs (Err x) o e = λ f w same. let j = summed_err (judge bs) x e in let a = accepts f w in let b = ap judge same in cc

@@ -85,7 +85,7 @@ one_tag b n x t o c e other = ⊎_elim (λ h. eqb-true b n h.0 ∙ c ∙ ap tag_
 
 pub tag_byte_lem : (b : ℕ) (t : Tag) → tag_of b ≡ Some t → b ≡ tag_byte t
 tag_byte_lem b t e =
-    one_tag b 1 FileHeader t _ refl e (λ e. one_tag b 5 BatchHeader t _ refl e (λ e. one_tag b 6 t_presentation t _ refl e (λ e. one_tag b 7 t_return t _ refl e (λ e. one_tag b 8 BatchEnd t _ refl e (λ e. one_tag b 9 FileEnd t None refl e (λ e. let z : ◌≡◌ {A = ℕ} 0 1 = cc in absurd (omega arith)))))))
+    one_tag b 1 FileHeader t _ refl e (λ e. one_tag b 5 BatchHeader t _ refl e (λ e. one_tag b 6 t_presentation t _ refl e (λ e. one_tag b 7 t_return t _ refl e (λ e. one_tag b 8 BatchEnd t _ refl e (λ e. one_tag b 9 FileEnd t None refl e (λ e. absurd (cc)))))))
 
 width_small : (t : Tag) → width t ≤ 24
 width_small FileHeader = omega arith
@@ -106,11 +106,11 @@ pub record Read (bs : List ℕ) (p : Piece) : Type 0 where
 
 sized_inv : (a b : Bool) (t : Tag) (v : List ℕ) (p : Piece) → ◌≡◌ {A = Result Piece Refusal} (cond a (cond b (Err ValueCut) (Ok (piece t v))) (Err WrongLength)) (Ok p) → (a ≡ true) × (b ≡ false) × (p ≡ piece t v)
 sized_inv true false t v p e = (refl, refl, cc)
-sized_inv true true t v p e = let z : ◌≡◌ {A = ℕ} 0 1 = cc in absurd (omega arith)
-sized_inv false b t v p e = let z : ◌≡◌ {A = ℕ} 0 1 = cc in absurd (omega arith)
+sized_inv true true t v p e = absurd (cc)
+sized_inv false b t v p e = absurd (cc)
 
 pub behind_inv : (o : Option Tag) (n : ℕ) (vs : List ℕ) (p : Piece) → behind_head o n vs ≡ Ok p → (t : Tag) × (o ≡ Some t) × (n ≡ width t) × (n ≤ length vs) × (p ≡ piece t (take n vs))
-behind_inv None n vs p e = let z : ◌≡◌ {A = ℕ} 0 1 = cc in absurd (omega arith)
+behind_inv None n vs p e = absurd (cc)
 behind_inv (Some t) n vs p e = let h = sized_inv (eqb n (width t)) (ltb (length vs) n) t (take n vs) p e in (t, refl, eqb-true n (width t) h.0, ltb-false (length vs) n h.1, h.2)
 
 read_head : (b a d : ℕ) (vs : List ℕ) (p : Piece) → Octets (b ∷ a ∷ d ∷ vs) → first_record (b ∷ a ∷ d ∷ vs) ≡ Ok p → Read (b ∷ a ∷ d ∷ vs) p
@@ -134,7 +134,7 @@ read_head b a d vs p o e =
     subst (Read (b ∷ a ∷ d ∷ vs)) (sym h.4) at
 
 pub read : (bs : List ℕ) (p : Piece) → Octets bs → first_record bs ≡ Ok p → Read bs p
-read [] p o e = let z : ◌≡◌ {A = ℕ} 0 1 = cc in absurd (omega arith)
-read (b ∷ []) p o e = let z : ◌≡◌ {A = ℕ} 0 1 = cc in absurd (omega arith)
-read (b ∷ a ∷ []) p o e = let z : ◌≡◌ {A = ℕ} 0 1 = cc in absurd (omega arith)
+read [] p o e = absurd (cc)
+read (b ∷ []) p o e = absurd (cc)
+read (b ∷ a ∷ []) p o e = absurd (cc)
 read (b ∷ a ∷ d ∷ vs) p o e = read_head b a d vs p o e

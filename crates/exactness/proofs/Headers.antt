@@ -1,6 +1,7 @@
 -- Which header the numbers say, forth and back.
 use Rattle.std.proofs.Common.{◌≡◌, ℕ, ◌/◌, ◌<◌, ◌≤◌, Bool, true, false, cond, ◌&&◌, Some, None, Option, sym, refl, ap, ◌∙◌, subst, arith, le-leb, leb-true}
 use Rattle.std.proofs.lemmas.Bool.Decides.{nat_tests}
+use Rattle.std.proofs.lemmas.Bool.{and_parts}
 use Rattle.terms.specs.Dates.{is_day}
 use Rattle.terms.specs.Numbers.{currency_number, currency_of, cycle_number, cycle_of, kind_number, kind_of}
 use Rattle.terms.specs.declared.currency.Currency.{Currency}
@@ -13,9 +14,6 @@ use Rattle.wire.specs.declared.values.RawHeader.{RawHeader}
 use Rattle.memberfile.specs.Headers.{InRange, header_by, header_of, ranged, raw_of}
 use Rattle.memberfile.specs.Layout.{LawfulHeader}
 use Rattle.memberfile.specs.declared.header.Header.{Header}
-
-some_none : {X : Type 0} (x : X) → ◌≡◌ {A = Option X} (Some x) None → ⊥
-some_none x e = let z : ◌≡◌ {A = ℕ} 0 1 = cc in omega arith
 
 kind_is : (n : ℕ) (k : FileKind) → kind_of n ≡ Some k → n ≡ kind_number k
 kind_is n k h = grind (arith, nat_tests)
@@ -61,10 +59,6 @@ cycle_back Morning = refl
 cycle_back Intermediate = refl
 cycle_back Afternoon = refl
 
-pub and_parts : (a b : Bool) → (a && b) ≡ true → (a ≡ true) × (b ≡ true)
-and_parts true b e = (refl, e)
-and_parts false b e = absurd (let z : ◌≡◌ {A = ℕ} 0 1 = cc in omega arith)
-
 -- what the range test says
 pub record Ranges (r : RawHeader) : Type 0 where
   pub low : 1 ≤ r.origin
@@ -103,7 +97,7 @@ pub record Said (r : RawHeader) (h : Header) : Type 0 where
   pub lawful : LawfulHeader h
 
 said_by_lem : (r : RawHeader) (k : FileKind) (c : Currency) (y : Cycle) (h : Header) (b : Bool) → ranged r ≡ b → kind_of r.kind ≡ Some k → currency_of r.currency ≡ Some c → cycle_of r.cycle ≡ Some y → cond b (Some (record { kind = k; currency = c; cycle = y; origin = r.origin; date = r.date; number = r.number })) None ≡ Some h → Said r h
-said_by_lem r k c y h false e p q o f = absurd (some_none h (sym f))
+said_by_lem r k c y h false e p q o f = absurd (cc)
 said_by_lem r k c y h true e p q o f =
     let is : record { kind = k; currency = c; cycle = y; origin = r.origin; date = r.date; number = r.number } ≡ h = cc in
     let same : raw_of (record { kind = k; currency = c; cycle = y; origin = r.origin; date = r.date; number = r.number }) ≡ r = λ i. record { kind = sym (kind_is r.kind k p) i; currency = sym (currency_is r.currency c q) i; cycle = sym (cycle_is r.cycle y o) i; origin = r.origin; date = r.date; number = r.number } in
@@ -111,9 +105,9 @@ said_by_lem r k c y h true e p q o f =
     record { raw = raw; lawful = ap ranged raw ∙ e }
 
 said_of : (r : RawHeader) (k : Option FileKind) (c : Option Currency) (y : Option Cycle) (h : Header) → kind_of r.kind ≡ k → currency_of r.currency ≡ c → cycle_of r.cycle ≡ y → header_by k c y r ≡ Some h → Said r h
-said_of r None c y h p q o f = absurd (some_none h (sym f))
-said_of r (Some k) None y h p q o f = absurd (some_none h (sym f))
-said_of r (Some k) (Some c) None h p q o f = absurd (some_none h (sym f))
+said_of r None c y h p q o f = absurd (cc)
+said_of r (Some k) None y h p q o f = absurd (cc)
+said_of r (Some k) (Some c) None h p q o f = absurd (cc)
 said_of r (Some k) (Some c) (Some y) h p q o f = said_by_lem r k c y h (ranged r) refl p q o f
 
 -- a header that is said is in range, and its numbers are those that say it
@@ -134,7 +128,8 @@ out_of r (Some k) None y p q o f w = currency_out r.currency q w.currency.0 w.cu
 out_of r (Some k) (Some c) None p q o f w = cycle_out r.cycle o w.cycle.0 w.cycle.1
 out_of r (Some k) (Some c) (Some y) p q o f w =
     let t : ranged r ≡ true = in_ranges r (record { low = w.origin.0; high = w.origin.1; least = w.number.0; most = w.number.1; day = w.date }) in
-    some_none _ (sym (ap (λ b. cond b (Some (record { kind = k; currency = c; cycle = y; origin = r.origin; date = r.date; number = r.number })) None) t) ∙ f)
+    let e = sym (ap (λ b. cond b (Some (record { kind = k; currency = c; cycle = y; origin = r.origin; date = r.date; number = r.number })) None) t) ∙ f in
+    cc
 
 -- where no header is said, some value is out of range
 pub unsaid_out : (r : RawHeader) → header_of r ≡ None → InRange r → ⊥

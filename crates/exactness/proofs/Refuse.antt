@@ -38,20 +38,17 @@ use Rattle.memberfile.proofs.Walks.{less}
 abbrev Step : Type 0
 Step = Result Moved Refusal
 
-pub ok_not : {X E : Type 0} (x : X) (c : E) → ◌≡◌ {A = Result X E} (Ok x) (Err c) → ⊥
-ok_not x c e = let z : ◌≡◌ {A = ℕ} 0 1 = cc in omega arith
-
 no_one : (b : Bool) (x : Moved) (c d : Refusal) → ◌≡◌ {A = Step} (cond b (Ok x) (Err d)) (Err c) → (b ≡ false) × (d ≡ c)
-no_one true x c d e = absurd (ok_not x c e)
+no_one true x c d e = absurd (cc)
 no_one false x c d e = (refl, cc)
 
 no_two : (a b : Bool) (x : Moved) (c d k : Refusal) → ◌≡◌ {A = Step} (cond a (cond b (Ok x) (Err d)) (Err k)) (Err c) → ((a ≡ false) × (k ≡ c)) ⊎ ((a ≡ true) × (b ≡ false) × (d ≡ c))
-no_two true true x c d k e = absurd (ok_not x c e)
+no_two true true x c d k e = absurd (cc)
 no_two true false x c d k e = inr (refl, refl, cc)
 no_two false b x c d k e = inl (refl, cc)
 
 no_yes : (a b : Bool) (x : Moved) (c d k : Refusal) → ◌≡◌ {A = Step} (cond a (cond b (Err d) (Ok x)) (Err k)) (Err c) → ((a ≡ false) × (k ≡ c)) ⊎ ((a ≡ true) × (b ≡ true) × (d ≡ c))
-no_yes true false x c d k e = absurd (ok_not x c e)
+no_yes true false x c d k e = absurd (cc)
 no_yes true true x c d k e = inr (refl, refl, cc)
 no_yes false b x c d k e = inl (refl, cc)
 
@@ -84,7 +81,7 @@ misplaced : (c : Refusal) (p : Front) (t : Tag) (v : List ℕ) → (Follows p t 
 misplaced c p t v not e = (in_order, cc, inl (refl, not))
 
 unopened : (o : Option Header) (c : Refusal) → opened_by o ≡ Err c → (o ≡ None) × (HeaderValue ≡ c)
-unopened (Some h) c e = absurd (ok_not _ c e)
+unopened (Some h) c e = absurd (cc)
 unopened None c e = (refl, cc)
 
 of_presentations : (k : FileKind) (p : PresentationV) → is_of k (Presentation p) ≡ false → k ≡ Presentations → ⊥
@@ -150,9 +147,9 @@ pub record Fine (rest : List ℕ) (q : Piece) : Type 0 where
   pub is : q ≡ piece tag (value_at tag rest)
 
 pub fine : (rest : List ℕ) (q : Piece) → first_record rest ≡ Ok q → Fine rest q
-fine [] q e = absurd (ok_not q _ (sym e))
-fine (b ∷ []) q e = absurd (ok_not q _ (sym e))
-fine (b ∷ a ∷ []) q e = absurd (ok_not q _ (sym e))
+fine [] q e = absurd (cc)
+fine (b ∷ []) q e = absurd (cc)
+fine (b ∷ a ∷ []) q e = absurd (cc)
 fine (b ∷ a ∷ d ∷ vs) q e =
     let h = behind_inv (tag_of b) (a * 256 + d) vs q e in
     record { tag = h.0; tag_is = h.1; head = omega arith; long = h.2; within = omega (arith, h.2, h.3); is = h.4 ∙ ap (λ n. piece h.0 (take n vs)) h.2 }
@@ -170,14 +167,14 @@ step_faults s g pre r rest q c e f =
 unread : (x y : Bool) (p : Piece) (c : Refusal) → ◌≡◌ {A = Result Piece Refusal} (cond x (cond y (Err ValueCut) (Ok p)) (Err WrongLength)) (Err c) → ((x ≡ false) × (WrongLength ≡ c)) ⊎ ((x ≡ true) × (y ≡ true) × (ValueCut ≡ c))
 unread false y p c e = inl (refl, cc)
 unread true true p c e = inr (refl, refl, cc)
-unread true false p c e = absurd (ok_not p c e)
+unread true false p c e = absurd (cc)
 
 -- the rule of the bytes that is broken first, with what they are refused with
 abbrev UnreadBy : Refusal → Front → List ℕ → Type 0
 UnreadBy c p rest = (r : FieldsRule) × (fields_cause r ≡ c) × FirstBroken rules (fields r) p rest
 
 headed : (o : Option Tag) (p : Front) (b a d : ℕ) (vs : List ℕ) (c : Refusal) → tag_of b ≡ o → behind_head o (a * 256 + d) vs ≡ Err c → UnreadBy c p (b ∷ a ∷ d ∷ vs)
-headed None p b a d vs c o e = (tag_known, cc, inr (omega arith, inl (refl, λ h. let k = h.1 in let z : ◌≡◌ {A = ℕ} 0 1 = cc in omega arith)))
+headed None p b a d vs c o e = (tag_known, cc, inr (omega arith, inl (refl, λ h. let k = h.1 in cc)))
 headed (Some t) p b a d vs c o e =
     ⊎_elim
     (λ k. (length_right, k.1, inr (omega arith, inr ((t, o), inl (refl, λ h. eqb-false _ _ k.0 (h t o))))))
@@ -192,7 +189,7 @@ read_faults p (b ∷ a ∷ d ∷ vs) c e = headed (tag_of b) p b a d vs c refl e
 
 -- a turn that ends in a fault
 placed_err : (n : ℕ) (q : Result Moved Refusal) (x : Fault) → step_placed n q ≡ Err x → (c : Refusal) × (q ≡ Err c) × (x ≡ file_fault c n)
-placed_err n (Ok m) x e = absurd (ok_not m x e)
+placed_err n (Ok m) x e = absurd (cc)
 placed_err n (Err c) x e = (c, refl, cc)
 
 turned_err : (n : ℕ) (s : Stage) (r : Result Piece Refusal) (x : Fault) → turned_by n s (at_place n r) ≡ Err x → ((c : Refusal) × (r ≡ Err c) × (x ≡ fields_fault c n)) ⊎ ((q : Piece) × (r ≡ Ok q) × (step_placed n (stepped s q) ≡ Err x))
@@ -203,7 +200,7 @@ breaks : (s : Stage) (g : Log) (c : Rule) (rest : List ℕ) → ending s ≡ Non
 breaks BeforeHeader g c rest e b = b
 breaks (Between s) g c rest e b = b
 breaks (InBatch s t) g c rest e b = b
-breaks (AfterEnd s) g c rest e b = absurd (let z : ◌≡◌ {A = ℕ} 0 1 = cc in omega arith)
+breaks (AfterEnd s) g c rest e b = absurd (cc)
 
 fault_at : (n : ℕ) (s : Stage) (g : Log) (bs pre : List ℕ) (x : Fault) (c : Rule) → Reached s g pre → n ≡ length pre → Breaks (front_of s g) c bs → x ≡ fault_of c n → FaultIn (pre ++ bs) x
 fault_at n s g bs pre x c r l b e =
@@ -224,7 +221,7 @@ turn_fault : (n : ℕ) (s : Stage) (g : Log) (bs pre : List ℕ) (x : Fault) →
 turn_fault n s g bs pre x r l e t = let k = turn_breaks n s g bs pre x r t in fault_at n s g bs pre x k.0 r l (breaks s g k.0 bs e k.1) k.2
 
 onward_err : (o : Option Header) (q : Result Moved Fault) (end : Header → Verdict) (go : Moved → Verdict) (x : Fault) → o ≡ None → onward o q end go ≡ Err x → ((m : Moved) × (q ≡ Ok m) × (go m ≡ Err x)) ⊎ (q ≡ Err x)
-onward_err (Some h) q end go x n e = absurd (let z : ◌≡◌ {A = ℕ} 0 1 = cc in omega arith)
+onward_err (Some h) q end go x n e = absurd (cc)
 onward_err None (Ok m) end go x n e = inl (m, refl, e)
 onward_err None (Err y) end go x n e = inr (cc)
 
@@ -239,7 +236,7 @@ fail_step k s g n bs pre x o r l e f next =
     (onward_err (ending s) (turned n s bs) _ _ x e f)
 
 end_fault : (h : Header) (g : Log) (n : ℕ) (bs : List ℕ) (x : Fault) → ended h g n bs ≡ Err x → (0 < length bs) × (x ≡ fault_of (file in_order) n)
-end_fault h g n [] x e = absurd (ok_not _ x e)
+end_fault h g n [] x e = absurd (cc)
 end_fault h g n (b ∷ bs) x e = (omega arith, cc)
 
 fail_run : (k : ℕ) (s : Stage) (g : Log) (n : ℕ) (bs pre : List ℕ) (x : Fault) → Octets bs → Reached s g pre → n ≡ length pre → length bs < k → run k s g n bs ≡ Err x → FaultIn (pre ++ bs) x

@@ -1,5 +1,6 @@
 -- What breaks a rule, behind what stands in order, is refused by that rule.
 use Rattle.std.proofs.Common.{◌≡◌, ℕ, zero, suc, ◌+◌, ◌-◌, ◌<◌, ◌≤◌, true, List, [], ◌∷◌, ◌++◌, length, None, Ok, Err, Result, sym, refl, ap, ◌∙◌, subst, inl, inr, append_assoc, arith, length-append, eqb-true, leb-false}
+use Rattle.std.proofs.lemmas.Bool.{and_parts}
 use Rattle.wire.specs.Bytes.{in_bytes, Octets}
 use Rattle.wire.specs.Records.{Piece, width}
 use Rattle.terms.specs.Numbers.{batch_kind}
@@ -24,7 +25,7 @@ use Rattle.wire.specs.declared.values.Return.{Return as ReturnV}
 use Rattle.memberfile.specs.declared.check.Summary.{Summary}
 use Rattle.exactness.proofs.Complete.{Gets, gets_at, step_on, rows_on, batches_gets, whole_gets, head_step, through, through_header, through_batches, through_totals, with_rows, batch_with, log_of, tally-++}
 use Rattle.memberfile.proofs.Summaries.{summed_err, summed_ok}
-use Rattle.exactness.proofs.Headers.{and_parts, said_in_range}
+use Rattle.exactness.proofs.Headers.{said_in_range}
 use Rattle.exactness.proofs.Refuse.{same_tag, front_of, Fine, fine, turn_breaks, refuses}
 use Rattle.exactness.proofs.Sound.{Reached, same_totals_lem}
 use Rattle.memberfile.proofs.Steps.{Steps, steps}
@@ -87,11 +88,11 @@ pick p t v k totals_right = k.4
 
 of_presentations : (k : FileKind) (p : PresentationV) → is_of k (Presentation p) ≡ true → k ≡ Presentations
 of_presentations Presentations p e = refl
-of_presentations Returns p e = absurd (let z : ◌≡◌ {A = ℕ} 0 1 = cc in omega arith)
+of_presentations Returns p e = absurd (cc)
 
 of_returns : (k : FileKind) (p : ReturnV) → is_of k (Return p) ≡ true → k ≡ Returns
 of_returns Returns p e = refl
-of_returns Presentations p e = absurd (let z : ◌≡◌ {A = ℕ} 0 1 = cc in omega arith)
+of_returns Presentations p e = absurd (cc)
 
 kept : (s : Stage) (g : Log) (pre : List ℕ) → Reached s g pre → (t : Tag) (v : List ℕ) (m : Moved) → Steps s t v m → Kept (front_of s g) t v
 kept BeforeHeader g pre r FileHeader v m e = (refl, said_in_range _ e.0 e.1, tt, tt, tt)
@@ -198,5 +199,5 @@ refuted bs x (inl k) = judge_long bs k.0 ∙ ap Err (sym k.1)
 refuted bs x (inr k) = faulty bs x k.0 k.1
 
 pub refused_by : (bs : List ℕ) (r : Result Summary Fault) → Octets bs → r ≡ summed (judge bs) → RefusedBy bs r
-refused_by bs (Ok m) o e = λ x h. let j = summed_ok (judge bs) m e in let k = refuted bs x h in let z : ◌≡◌ {A = ℕ} 0 1 = cc in omega arith
+refused_by bs (Ok m) o e = λ x h. let j = summed_ok (judge bs) m e in let k = refuted bs x h in cc
 refused_by bs (Err x) o e = let j = summed_err (judge bs) x e in (refuses bs x o j, λ y h. let k = refuted bs y h in cc)

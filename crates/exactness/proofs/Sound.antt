@@ -1,6 +1,7 @@
 -- What is accepted is the encoding of a well-formed file.
 use Rattle.std.proofs.Common.{◌≡◌, ℕ, zero, suc, ◌+◌, ◌<◌, ◌≤◌, true, List, [], ◌∷◌, ◌++◌, length, drop, Some, None, Ok, Err, Result, sym, refl, ap, ◌∙◌, subst, ⊎_elim, append_assoc, append-nil, arith, length-append, eqb-true, leb-false}
 use Rattle.std.proofs.str.Laws.{order}
+use Rattle.std.proofs.lemmas.Bool.{and_parts}
 use Rattle.wire.specs.Bytes.{in_bytes, Octets}
 use Rattle.wire.specs.Records.{width}
 use Rattle.wire.specs.Values.{raw_header_in, batch_head_in, presentation_in, return_in, closing_in}
@@ -25,7 +26,7 @@ use Rattle.memberfile.specs.declared.stage.Stage.TheVariants.{BeforeHeader, Betw
 use Rattle.memberfile.specs.declared.stage.Moved.{Moved}
 use Rattle.terms.specs.declared.fault.Fault.{Fault}
 use Rattle.exactness.proofs.Complete.{tally-++}
-use Rattle.exactness.proofs.Headers.{and_parts, header_said}
+use Rattle.exactness.proofs.Headers.{header_said}
 use Rattle.exactness.proofs.Forth.{header_forth, presented_forth, presented_fits, returned_forth, returned_fits, closing_forth, closing_fits, closing_number, head_forth, head_number, Read, read}
 use Rattle.memberfile.proofs.Steps.{Steps, steps}
 use Rattle.memberfile.proofs.Turns.{turned_ok, all_rows-++, judge_long, judge_short}
@@ -225,7 +226,7 @@ on n s bs m g pre o r e =
 
 onward_ok : (q : Result Moved Fault) (end : Header → Verdict) (go : Moved → Verdict) (f : FileValue) → onward None q end go ≡ Ok f → (m : Moved) × (q ≡ Ok m) × (go m ≡ Ok f)
 onward_ok (Ok m) end go f e = (m, refl, e)
-onward_ok (Err x) end go f e = let z : ◌≡◌ {A = ℕ} 0 1 = cc in absurd (omega arith)
+onward_ok (Err x) end go f e = absurd (cc)
 
 abbrev Says : FileValue → List ℕ → Type 0
 Says f bs = AtEnd f.header (record { closed = f.batches; held = [] }) bs
@@ -234,10 +235,10 @@ says_at : (h : Header) (g : Log) (n : ℕ) (bs pre : List ℕ) (f : FileValue) �
 says_at h g n [] pre f r e =
     let same : record { header = h; batches = g.closed } ≡ f = cc in
     subst (λ x. Says x (pre ++ [])) same (subst (λ x. Says (record { header = h; batches = g.closed }) x) (sym (append-nil pre)) (record { header = r.header; formed = r.formed; few = r.few; totals = r.totals; wrote = r.wrote }))
-says_at h g n (b ∷ bs) pre f r e = let z : ◌≡◌ {A = ℕ} 0 1 = cc in absurd (omega arith)
+says_at h g n (b ∷ bs) pre f r e = absurd (cc)
 
 sound_run : (k : ℕ) (s : Stage) (g : Log) (n : ℕ) (bs pre : List ℕ) (f : FileValue) → Octets bs → Reached s g pre → run k s g n bs ≡ Ok f → Says f (pre ++ bs)
-sound_run zero s g n bs pre f o r e = let z : ◌≡◌ {A = ℕ} 0 1 = cc in absurd (omega arith)
+sound_run zero s g n bs pre f o r e = absurd (cc)
 sound_run (suc k) BeforeHeader g n bs pre f o r e =
     let q = onward_ok (turned n BeforeHeader bs) _ _ f e in
     let w : Onward BeforeHeader g pre bs q.0 = on n BeforeHeader bs q.0 g pre o r q.1 in
@@ -255,7 +256,7 @@ sound_run (suc k) (AfterEnd s) g n bs pre f o r e = says_at s.header g n bs pre 
 pub sound : (bs : List ℕ) (f : FileValue) → Octets bs → judge bs ≡ Ok f → Formed f × (bs ≡ encode f)
 sound bs f o e =
     ⊎_elim
-    (λ long. let x = judge_long bs long in let z : ◌≡◌ {A = ℕ} 0 1 = cc in absurd (omega arith))
+    (λ long. let x = judge_long bs long in absurd (cc))
     (λ short.
     let r : Says f bs = sound_run (suc (length bs)) BeforeHeader blank 0 bs [] f o (refl, refl) (sym (judge_short bs short) ∙ e) in (
       record { header = r.header; batches = r.formed; few = r.few; totals = r.totals; short = subst (λ x. length x ≤ 65535) r.wrote short },

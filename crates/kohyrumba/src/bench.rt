@@ -5,19 +5,20 @@ mod input;
 mod sum;
 mod verdicts;
 
-use crate::bench::folder::{FOLDER_WANTED, bench_folder, needs_folder};
+use crate::bench::clock::timed;
+use crate::bench::folder::{FOLDER_WANTED, JOBS, Job, bench_folder};
+use crate::bench::input::Covers;
 use crate::usage::bad_usage;
 use clearing::entry::Entry;
 use clearing::netting::clear_by;
 use clearing::place::{CAPACITY, MEMBERS, Place};
+use console::names::by_name;
 use rules::rankings::SendingOrder;
 use rules::sources::statement::Statement;
 use std::alloc::Global;
-use std::time::Instant;
+use std::array;
 
 const WORTH: u32 = 100;
-
-const AMPLE: u64 = 1_000_000_000_000;
 
 fn place_of(payer: usize, receiver: usize) -> Place {
     Place {
@@ -38,43 +39,20 @@ fn place_of(payer: usize, receiver: usize) -> Place {
     }
 }
 
-// A full table in which the members pay in turn.
-fn round_table(heap: Global) -> anyhow::Result<Vec<Place>> {
-    let mut places = Vec::new(heap);
-    for i in 0..CAPACITY {
-        places.push(place_of(i, i + 1))?;
-    }
-    Ok(places)
-}
-
-// A full table in which the first member pays all.
-fn one_payer_table(heap: Global) -> anyhow::Result<Vec<Place>> {
-    let mut places = Vec::new(heap);
-    for i in 0..CAPACITY {
-        places.push(place_of(0, i % (MEMBERS - 1) + 1))?;
-    }
-    Ok(places)
+// A full table of the entries that stand at each place.
+fn full_table<F: FnMut(usize) -> Place>(heap: Global, entry: F) -> anyhow::Result<Vec<Place>>
+    requires { (state : F) (at : _) → F.pre state at }
+{
+    Ok((0..CAPACITY).map(entry).collect(heap)?)
 }
 
 // The codes from 1, as many as a roll can hold.
 fn full_roll() -> [u16; MEMBERS] {
-    let mut roll = [0; MEMBERS];
-    for i in 0..MEMBERS {
-        roll[i] = i as u16 + 1;
-    }
-    roll
-}
-
-fn ample_covers(roll: &[u16]) -> Statement {
-    let mut statement = Statement::new();
-    for code in roll {
-        let _ = statement.report(*code, AMPLE);
-    }
-    statement
+    array::from_fn(|place| place as u16 + 1)
 }
 
 // Clears the table so many times, and shows the time that one entry takes.
-fn time(
+fn show_time(
     rt: &HostRuntime,
     name: &str,
     source: &Statement,
@@ -82,12 +60,13 @@ fn time(
     turns: u32,
 ) -> anyhow::Result<()> {
     let roll = full_roll();
-    let start = Instant::now(rt)?;
-    let mut withdrawn = 0;
-    for _ in 0..turns {
-        withdrawn = clear_by(&SendingOrder, source, &roll, places, CAPACITY).withdrawn;
-    }
-    let spent = start.elapsed(rt)?.as_nanos();
+    let (withdrawn, spent) = timed(rt, || {
+        let mut withdrawn = 0;
+        for _ in 0..turns {
+            withdrawn = clear_by(&SendingOrder, source, &roll, places, CAPACITY).withdrawn;
+        }
+        withdrawn
+    })?;
     let entries = u128::from(turns) * CAPACITY as u128;
     if entries == 0 {
         return Ok(());
@@ -99,24 +78,24 @@ fn time(
     Ok(())
 }
 
-pub(crate) fn bench_clear(rt: &HostRuntime, words: &[String]) -> anyhow::Result<()> {
-    let [what] = words else {
-        return bad_usage(rt, "bench: clear is wanted");
-    };
-    if what.as_str() != "clear" {
-        return bad_usage(rt, "bench: clear is wanted");
-    }
-    let mut places = round_table(rt.alloc())?;
-    let ample = ample_covers(&full_roll());
-    time(rt, "nothing withdrawn", &ample, &mut places, 2_000)?;
-    let mut chain = one_payer_table(rt.alloc())?;
-    time(rt, "one payer's chain", &Statement::new(), &mut chain, 20)
+fn bench_clear(rt: &HostRuntime) -> anyhow::Result<()> {
+    // The members pay in turn.
+    let mut round = full_table(rt.alloc(), |i| place_of(i, i.wrapping_add(1)))?;
+    let ample = Covers::Ample.of(&full_roll());
+    show_time(rt, "nothing withdrawn", &ample, &mut round, 2_000)?;
+    // The first member pays all.
+    let mut chain = full_table(rt.alloc(), |i| place_of(0, i % (MEMBERS - 1) + 1))?;
+    show_time(rt, "one payer's chain", &Statement::new(), &mut chain, 20)
 }
 
-pub(crate) fn run_bench(rt: &HostRuntime, words: &[String]) -> anyhow::Result<()> {
+pub(crate) fn run_bench(rt: &HostRuntime, words: &[&str]) -> anyhow::Result<()> {
     match words {
-        [job, folder, rest @ ..] => bench_folder(rt, job.as_str(), folder.as_str(), rest),
-        [job] if needs_folder(job.as_str()) => bad_usage(rt, FOLDER_WANTED),
-        _ => bench_clear(rt, words),
+        [job, folder, rest @ ..] => bench_folder(rt, by_name(&JOBS, job), folder, rest),
+        [job] => match by_name(&JOBS, job) {
+            Some(Job::Clear) => bench_clear(rt),
+            Some(_) => bad_usage(rt, FOLDER_WANTED),
+            None => bad_usage(rt, "bench: clear is wanted"),
+        },
+        [] => bad_usage(rt, "bench: clear is wanted"),
     }
 }

@@ -1,25 +1,31 @@
 // The command `check`: a verdict for each member file.
 use crate::records::show_records;
-use crate::usage::bad_usage;
+use crate::usage::{bad_usage, show_error};
 use anyhow::anyhow;
 use exactness::judged::judge_file;
 use memberfile::check::Summary;
+use memberfile::header::Header;
 use std::{fs, io};
 use terms::fault::Fault;
 
-#[derive(Clone, Copy)]
+#[derive(Clone, Copy, Default)]
 struct Options {
     rows: bool,
     strict: bool,
 }
 
 fn show_accepted(rt: &HostRuntime, name: &str, file: Summary) -> io::Result<()> {
-    let kind = file.header.kind.number();
-    let currency = file.header.currency.number();
-    let cycle = file.header.cycle.number();
-    let origin = file.header.origin;
-    let date = file.header.date;
-    let number = file.header.number;
+    let Header {
+        kind,
+        currency,
+        cycle,
+        origin,
+        date,
+        number,
+    } = file.header;
+    let kind = u8::from(kind);
+    let currency = u8::from(currency);
+    let cycle = u8::from(cycle);
     let batches = file.batches;
     let rows = file.rows;
     println!(rt;
@@ -28,46 +34,44 @@ fn show_accepted(rt: &HostRuntime, name: &str, file: Summary) -> io::Result<()> 
 }
 
 fn show_refused(rt: &HostRuntime, name: &str, fault: Fault) -> io::Result<()> {
-    let code = fault.cause.code();
-    let layer = fault.layer.number();
-    let place = fault.place;
-    let cause = fault.cause;
+    let Fault {
+        cause,
+        place,
+        layer,
+    } = fault;
+    let code = u8::from(cause);
+    let layer = u8::from(layer);
     println!(rt; "{name}: refused code={code} layer={layer} place={place} ({cause})")
 }
 
 // Judges the file of that name; false where it is refused.
 fn check_file(rt: &HostRuntime, options: Options, name: &str) -> io::Result<bool> {
     let bytes = fs::read(rt, name)?;
-    let accepted = match judge_file(&bytes) {
-        Ok(file) => {
-            show_accepted(rt, name, file)?;
-            true
-        }
-        Err(fault) => {
-            show_refused(rt, name, fault)?;
-            false
-        }
-    };
+    let verdict = judge_file(&bytes);
+    match verdict {
+        Ok(file) => show_accepted(rt, name, file)?,
+        Err(fault) => show_refused(rt, name, fault)?,
+    }
     if options.rows {
         show_records(rt, &bytes)?;
     }
-    Ok(accepted)
+    Ok(verdict.is_ok())
+}
+
+fn is_option(word: &str) -> bool {
+    word.starts_with("--")
 }
 
 // Judges the files in their order; one that cannot be read is named, and the others are still judged.
-fn check_all(rt: &HostRuntime, options: Options, words: &[String]) -> anyhow::Result<()> {
+fn check_all(rt: &HostRuntime, options: Options, words: &[&str]) -> anyhow::Result<()> {
     let mut refused = false;
     let mut unread = false;
-    for word in words {
-        let name = word.as_str();
-        if name.starts_with("--") {
-            continue;
-        }
+    for name in words.iter().filter(|word| !is_option(word)) {
         match check_file(rt, options, name) {
             Ok(accepted) => refused |= !accepted,
             Err(error) => {
                 unread = true;
-                eprintln!(rt; "kohyrumba: {name}: {error}")?;
+                show_error(rt, name, &error)?;
             }
         }
     }
@@ -80,25 +84,16 @@ fn check_all(rt: &HostRuntime, options: Options, words: &[String]) -> anyhow::Re
     Ok(())
 }
 
-pub(crate) fn check_files(rt: &HostRuntime, words: &[String]) -> anyhow::Result<()> {
-    let mut options = Options {
-        rows: false,
-        strict: false,
-    };
-    let mut files = false;
-    for word in words {
-        match word.as_str() {
+pub(crate) fn check_files(rt: &HostRuntime, words: &[&str]) -> anyhow::Result<()> {
+    let mut options = Options::default();
+    for option in words.iter().filter(|word| is_option(word)) {
+        match *option {
             "--rows" => options.rows = true,
             "--strict" => options.strict = true,
-            other => {
-                if other.starts_with("--") {
-                    return bad_usage(rt, "check: no such option");
-                }
-                files = true;
-            }
+            _ => return bad_usage(rt, "check: no such option"),
         }
     }
-    if !files {
+    if words.iter().all(|word| is_option(word)) {
         return bad_usage(rt, "check: a file is wanted");
     }
     check_all(rt, options, words)

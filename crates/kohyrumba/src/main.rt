@@ -18,25 +18,22 @@ use crate::plans::{run_demo, run_plan};
 use crate::run_console::run_console;
 use crate::tables::limits::show_rules;
 use crate::tables::settled_cases::show_cases;
-use crate::usage::{bad_usage, show_usage, show_version};
+use crate::usage::{bad_usage, show_usage, show_version, shown};
 use crate::write_list::write_list;
 use anyhow::anyhow;
-use std::alloc::Global;
+use console::words::words_of;
 use std::process::ExitCode;
 use std::{env, fs};
 
 // The help on a command, where the words ask for it.
-fn help_asked(words: &[String]) -> Option<&'static str> {
-    let [command, option] = words else {
-        return None;
-    };
-    match option.as_str() {
-        "--help" | "-h" => help_on(command.as_str()),
+fn help_asked(words: &[&str]) -> Option<&'static str> {
+    match words {
+        [command, "--help" | "-h"] => help_on(command),
         _ => None,
     }
 }
 
-fn obey(rt: &HostRuntime, words: &[String]) -> anyhow::Result<()> {
+fn obey(rt: &HostRuntime, words: &[&str]) -> anyhow::Result<()> {
     let [command, rest @ ..] = words else {
         return bad_usage(rt, "a command is wanted");
     };
@@ -44,7 +41,7 @@ fn obey(rt: &HostRuntime, words: &[String]) -> anyhow::Result<()> {
         println!(rt; "{help}")?;
         return Ok(());
     }
-    match command.as_str() {
+    match *command {
         "check" => check_files(rt, rest),
         "console" => run_console(rt, rest),
         "session" => run_plan(rt, rest),
@@ -59,26 +56,16 @@ fn obey(rt: &HostRuntime, words: &[String]) -> anyhow::Result<()> {
     }
 }
 
-fn owned_words(heap: Global, line: &str) -> anyhow::Result<Vec<String>> {
-    let mut words = Vec::new(heap);
-    for word in line.split_ascii_whitespace() {
-        words.push(String::from_str(heap, word)?)?;
-    }
-    Ok(words)
-}
-
 // Carries out the command lines of a script; one that fails does not keep the others back.
 fn run_script(rt: &HostRuntime, script: &str) -> anyhow::Result<()> {
     let mut failed = false;
     for line in script.lines() {
-        let words = owned_words(rt.alloc(), line)?;
+        let words = words_of(rt.alloc(), line)?;
         if words.is_empty() || line.starts_with('#') {
             continue;
         }
         println!(rt; "$ kohyrumba {line}")?;
-        if obey(rt, &words).is_err() {
-            failed = true;
-        }
+        failed |= obey(rt, &words).is_err();
     }
     if failed {
         return Err(anyhow!("a command failed"));
@@ -86,30 +73,26 @@ fn run_script(rt: &HostRuntime, script: &str) -> anyhow::Result<()> {
     Ok(())
 }
 
-fn run(rt: &HostRuntime, words: &[String]) -> anyhow::Result<()> {
-    let [command, rest @ ..] = words else {
+fn run(rt: &HostRuntime, words: &[&str]) -> anyhow::Result<()> {
+    let ["run", rest @ ..] = words else {
         return obey(rt, words);
     };
-    if command.as_str() != "run" || help_asked(words).is_some() {
+    if help_asked(words).is_some() {
         return obey(rt, words);
     }
     let [path] = rest else {
         return bad_usage(rt, "run: a script is wanted");
     };
-    match fs::read_to_string(rt, path.as_str()) {
-        Ok(script) => run_script(rt, script.as_str()),
-        Err(error) => {
-            eprintln!(rt; "kohyrumba: {path}: {error}")?;
-            Err(anyhow!("the script cannot be read"))
-        }
-    }
+    let script = shown(rt, path, fs::read_to_string(rt, *path))?;
+    run_script(rt, script.as_str())
 }
 
 fn run_arguments(rt: &HostRuntime) -> anyhow::Result<()> {
-    let mut words = Vec::new(rt.alloc());
-    for word in env::args(rt)?.skip(1) {
-        words.push(word)?;
-    }
+    let arguments: Vec<String> = env::args(rt)?.skip(1).collect(rt.alloc())?;
+    let words: Vec<&str> = arguments
+        .iter()
+        .map(|word| word.as_str())
+        .collect(rt.alloc())?;
     run(rt, &words)
 }
 

@@ -1,6 +1,5 @@
 // The commands `session` and `demo`: a plan carried out and put on paper.
-use crate::usage::bad_usage;
-use anyhow::anyhow;
+use crate::usage::{bad_usage, shown};
 use console::hexadecimal::Hexadecimal;
 use result::file::write_result;
 use session::session::Session;
@@ -12,94 +11,55 @@ use std::{fs, io};
 // The longest result: a header, 64 members, 4,096 withdrawn records and the end.
 const RESULT_MOST_BYTES: usize = 75_096;
 
-fn carry_out(
-    rt: &HostRuntime,
-    sitting: &mut Sitting,
-    name: &str,
-    plan: &str,
-) -> anyhow::Result<()> {
-    match sitting.carry_out(rt, plan) {
-        Ok(()) => Ok(()),
-        Err(wrong) => {
-            eprintln!(rt; "kohyrumba: {name}: {wrong}")?;
-            Err(anyhow!("the plan is wrong"))
-        }
-    }
+// The sitting after a plan of that name.
+fn sitting_of(rt: &HostRuntime, shelf: Shelf, name: &str, plan: &str) -> anyhow::Result<Sitting> {
+    let mut sitting = Sitting::new(rt.alloc(), shelf);
+    shown(rt, name, sitting.carry_out(rt, plan))?;
+    Ok(sitting)
 }
 
 // The bytes of the session's result.
 fn result_of(rt: &HostRuntime, session: &Session) -> anyhow::Result<Vec<u8>> {
     let mut bytes = vec![in rt.alloc(); 0u8; RESULT_MOST_BYTES]?;
-    match write_result(session, &mut bytes) {
-        Ok(length) => {
-            bytes.truncate(length);
-            Ok(bytes)
-        }
-        Err(refusal) => {
-            eprintln!(rt; "kohyrumba: there is no result: {refusal}")?;
-            Err(anyhow!("there is no result"))
-        }
-    }
+    let length = shown(rt, "there is no result", write_result(session, &mut bytes))?;
+    bytes.truncate(length);
+    Ok(bytes)
 }
 
 fn save(rt: &HostRuntime, path: &str, bytes: &[u8]) -> io::Result<()> {
     fs::write(rt, path, bytes)?;
-    let length = bytes.len();
-    println!(rt; "{path}: result of {length} bytes")
+    println!(rt; "{path}: result of {} bytes", bytes.len())
 }
 
-fn save_result(rt: &HostRuntime, session: &Session, path: &str) -> anyhow::Result<()> {
-    let bytes = result_of(rt, session)?;
-    match save(rt, path, &bytes) {
-        Ok(()) => Ok(()),
-        Err(error) => {
-            eprintln!(rt; "kohyrumba: {path}: {error}")?;
-            Err(anyhow!("the result cannot be written"))
-        }
-    }
+// Carries out the plan of that name.
+fn planned(rt: &HostRuntime, name: &str) -> anyhow::Result<Sitting> {
+    let plan = shown(rt, name, fs::read_to_string(rt, name))?;
+    sitting_of(rt, Shelf::Disk, name, plan.as_str())
 }
 
-// The sitting after the plan of that name.
-fn sitting_of(rt: &HostRuntime, name: &str) -> anyhow::Result<Sitting> {
-    match fs::read_to_string(rt, name) {
-        Ok(plan) => {
-            let mut sitting = Sitting::new(rt.alloc(), Shelf::Disk);
-            carry_out(rt, &mut sitting, name, plan.as_str())?;
-            Ok(sitting)
-        }
-        Err(error) => {
-            eprintln!(rt; "kohyrumba: {name}: {error}")?;
-            Err(anyhow!("the plan cannot be read"))
-        }
-    }
-}
-
-pub(crate) fn run_plan(rt: &HostRuntime, words: &[String]) -> anyhow::Result<()> {
+pub(crate) fn run_plan(rt: &HostRuntime, words: &[&str]) -> anyhow::Result<()> {
     match words {
         [plan] => {
-            let _ = sitting_of(rt, plan.as_str())?;
+            let _ = planned(rt, plan)?;
             Ok(())
         }
         [plan, option, path] => {
-            if option.as_str() != "--result" {
+            if *option != "--result" {
                 return bad_usage(rt, "session: no such option");
             }
-            let sitting = sitting_of(rt, plan.as_str())?;
-            save_result(rt, sitting.session(), path.as_str())
+            let bytes = result_of(rt, planned(rt, plan)?.session())?;
+            shown(rt, path, save(rt, path, &bytes))
         }
         _ => bad_usage(rt, "session: PLAN [--result PATH] is wanted"),
     }
 }
 
-pub(crate) fn run_demo(rt: &HostRuntime, words: &[String]) -> anyhow::Result<()> {
+pub(crate) fn run_demo(rt: &HostRuntime, words: &[&str]) -> anyhow::Result<()> {
     if !words.is_empty() {
         return bad_usage(rt, "demo: nothing more is wanted");
     }
-    let mut sitting = Sitting::new(rt.alloc(), Shelf::Demo);
-    carry_out(rt, &mut sitting, "demo", demo::PLAN)?;
+    let sitting = sitting_of(rt, Shelf::Demo, "demo", demo::PLAN)?;
     let bytes = result_of(rt, sitting.session())?;
-    let length = bytes.len();
-    let shown = Hexadecimal(&bytes);
-    println!(rt; "result of {length} bytes: {shown}")?;
+    println!(rt; "result of {} bytes: {}", bytes.len(), Hexadecimal(&bytes))?;
     Ok(())
 }

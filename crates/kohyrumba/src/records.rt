@@ -6,14 +6,17 @@ use sitting::amounts::Money;
 use std::io;
 use wire::reader::Reader;
 use wire::record::Record;
-use wire::values::{Closing, batch_head_in, closing_in, presentation_in, raw_header_in, return_in};
+use wire::values::{
+    BatchHead, Closing, Presentation, RawHeader, Return, batch_head_in, closing_in,
+    presentation_in, raw_header_in, return_in,
+};
 
 fn show_closing(rt: &HostRuntime, name: &str, closing: Closing) -> io::Result<()> {
-    let number = closing.number;
-    let count = closing.totals.count;
-    let amounts = Money(closing.totals.amounts);
-    let commissions = Money(closing.totals.commissions);
-    let parties = closing.totals.parties;
+    let Closing { number, totals } = closing;
+    let count = totals.count;
+    let amounts = Money(totals.amounts);
+    let commissions = Money(totals.commissions);
+    let parties = totals.parties;
     println!(rt;
         "{name} {number} rows={count} amounts={amounts} commissions={commissions} members={parties}"
     )
@@ -22,13 +25,14 @@ fn show_closing(rt: &HostRuntime, name: &str, closing: Closing) -> io::Result<()
 fn show_header(rt: &HostRuntime, v: &[u8]) -> io::Result<()>
     requires { length v.now ≡ 10 }
 {
-    let h = raw_header_in(v);
-    let kind = h.kind;
-    let currency = h.currency;
-    let cycle = h.cycle;
-    let origin = h.origin;
-    let date = h.date;
-    let number = h.number;
+    let RawHeader {
+        kind,
+        currency,
+        cycle,
+        origin,
+        date,
+        number,
+    } = raw_header_in(v);
     println!(rt;
         "file header kind={kind} currency={currency} cycle={cycle} origin={origin} date={date} number={number}"
     )
@@ -37,12 +41,15 @@ fn show_header(rt: &HostRuntime, v: &[u8]) -> io::Result<()>
 fn show_presentation(rt: &HostRuntime, v: &[u8]) -> io::Result<()>
     requires { length v.now ≡ 13 }
 {
-    let p = presentation_in(v);
-    let record_type = p.record_type;
-    let other = p.other;
-    let reference = p.reference;
-    let amount = Money(u64::from(p.amount));
-    let commission = Money(u64::from(p.commission));
+    let Presentation {
+        record_type,
+        other,
+        reference,
+        amount,
+        commission,
+    } = presentation_in(v);
+    let amount = Money(u64::from(amount));
+    let commission = Money(u64::from(commission));
     println!(rt;
         "presentation type={record_type} other={other} reference={reference} amount={amount} commission={commission}"
     )
@@ -51,12 +58,15 @@ fn show_presentation(rt: &HostRuntime, v: &[u8]) -> io::Result<()>
 fn show_return(rt: &HostRuntime, v: &[u8]) -> io::Result<()>
     requires { length v.now ≡ 13 }
 {
-    let p = return_in(v);
-    let originator = p.originator;
-    let reference = p.reference;
-    let amount = Money(u64::from(p.amount));
-    let commission = Money(u64::from(p.commission));
-    let cause = p.cause;
+    let Return {
+        originator,
+        reference,
+        amount,
+        commission,
+        cause,
+    } = return_in(v);
+    let amount = Money(u64::from(amount));
+    let commission = Money(u64::from(commission));
     println!(rt;
         "return originator={originator} reference={reference} amount={amount} commission={commission} cause={cause}"
     )
@@ -68,9 +78,7 @@ fn show_record(rt: &HostRuntime, met: Record) -> io::Result<()>
     match met {
         Record::FileHeader(v) => show_header(rt, v),
         Record::BatchHeader(v) => {
-            let head = batch_head_in(v);
-            let kind = head.kind;
-            let number = head.number;
+            let BatchHead { kind, number } = batch_head_in(v);
             println!(rt; "batch header kind={kind} number={number}")
         }
         Record::Presentation(v) => show_presentation(rt, v),

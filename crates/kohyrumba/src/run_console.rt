@@ -1,6 +1,5 @@
 // The command `console`: a line in, an answer out, to the end of the input.
-use crate::usage::bad_usage;
-use anyhow::anyhow;
+use crate::usage::{bad_usage, shown};
 use console::answer::Answer;
 use console::console::Console;
 use console::misread::Misread;
@@ -36,28 +35,18 @@ fn answer_input(rt: &HostRuntime) -> io::Result<()> {
 
 // Answers the lines of a script.
 fn answer_script(rt: &HostRuntime, path: &str) -> anyhow::Result<()> {
+    let script = shown(rt, path, fs::read_to_string(rt, path))?;
     let mut console = Console::new(rt.alloc());
-    match fs::read_to_string(rt, path) {
-        Ok(script) => {
-            for line in script.lines() {
-                answer_line(rt, &mut console, line)?;
-            }
-            Ok(())
-        }
-        Err(error) => {
-            eprintln!(rt; "kohyrumba: {path}: {error}")?;
-            Err(anyhow!("the script cannot be read"))
-        }
+    for line in script.lines() {
+        answer_line(rt, &mut console, line)?;
     }
+    Ok(())
 }
 
-pub(crate) fn run_console(rt: &HostRuntime, words: &[String]) -> anyhow::Result<()> {
+pub(crate) fn run_console(rt: &HostRuntime, words: &[&str]) -> anyhow::Result<()> {
     match words {
-        [] => {
-            answer_input(rt)?;
-            Ok(())
-        }
-        [path] => answer_script(rt, path.as_str()),
+        [] => Ok(answer_input(rt)?),
+        [path] => answer_script(rt, path),
         _ => bad_usage(rt, "console: one script at most is wanted"),
     }
 }

@@ -1,5 +1,6 @@
 // What the program says of itself.
 use anyhow::anyhow;
+use std::{fmt, io};
 
 const VERSION: &str = "kohyrumba 0.1.0";
 
@@ -47,4 +48,28 @@ pub(crate) fn show_version(rt: &HostRuntime) -> anyhow::Result<()> {
 pub(crate) fn bad_usage(rt: &HostRuntime, problem: &str) -> anyhow::Result<()> {
     eprintln!(rt; "kohyrumba: {problem}\n\n{USAGE}")?;
     Err(anyhow!("bad usage"))
+}
+
+// One line that says of which file, and what went wrong.
+pub(crate) fn show_error<E: fmt::Display>(
+    rt: &HostRuntime,
+    name: &str,
+    error: &E,
+) -> io::Result<()> {
+    eprintln!(rt; "kohyrumba: {name}: {error}")
+}
+
+// What a step with that file gave; one that failed is shown.
+pub(crate) fn shown<T: Drop, E: fmt::Display + Drop>(
+    rt: &HostRuntime,
+    name: &str,
+    res: Result<T, E>,
+) -> anyhow::Result<T> {
+    match res {
+        Ok(value) => Ok(value),
+        Err(error) => {
+            show_error(rt, name, &error)?;
+            Err(anyhow!("{name}: {error}"))
+        }
+    }
 }

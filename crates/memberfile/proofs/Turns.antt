@@ -1,5 +1,5 @@
 -- What one turn of the check keeps.
-use Rattle.std.proofs.Common.{◌≡◌, ℕ, suc, ◌+◌, ◌-◌, ◌<◌, ◌≤◌, List, [], ◌∷◌, ◌++◌, length, drop, Some, None, Ok, Err, Option, Result, sym, refl, ap, ◌∙◌, subst, append_assoc, append-nil, arith, length-append, drop_of_length-le, drop-cons, drop-drop, le-ltb, lt-ltb}
+use Rattle.std.proofs.Common.{◌≡◌, ℕ, suc, ◌+◌, ◌-◌, ◌<◌, ◌≤◌, List, [], ◌∷◌, ◌++◌, length, drop, Some, None, Ok, Err, Option, Result, OnOk, sym, refl, ap, ◌∙◌, subst, append_assoc, append-nil, arith, length-append, drop_of_length-le, drop-cons, drop-drop, le-ltb, lt-ltb}
 use Rattle.std.specs.Option.{option_to_list}
 use Rattle.wire.specs.Records.{first_record, at_place, Piece}
 use Rattle.wire.specs.Rows.{presentations, presented}
@@ -31,14 +31,18 @@ room_more a b (Between s) l r = room_sofar a b s l r
 room_more a b (InBatch s t) l r = (room_sofar a b s l r.0, r.1, omega (arith, r.2))
 room_more a b (AfterEnd h) l r = tt
 
+pub on_ok : {T E P : Type 0} (r : Result T E) → P → OnOk r P
+on_ok (Ok x) p = p
+on_ok (Err e) p = tt
+
 -- a turn that is taken: the bytes begin with a record, whose step is taken
 taken_by : (n : ℕ) (q : Result Moved Refusal) (m : Moved) → step_placed n q ≡ Ok m → q ≡ Ok m
 taken_by n (Ok p) m e = cc
-taken_by n (Err c) m e = let z : ◌≡◌ {A = ℕ} 0 1 = cc in absurd (omega arith)
+taken_by n (Err c) m e = absurd (cc)
 
 turned_by_lem : (n : ℕ) (s : Stage) (r : Result Piece Refusal) (m : Moved) → turned_by n s (at_place n r) ≡ Ok m → (p : Piece) × (r ≡ Ok p) × (stepped s p ≡ Ok m)
 turned_by_lem n s (Ok p) m e = (p, refl, taken_by n (stepped s p) m e)
-turned_by_lem n s (Err c) m e = let z : ◌≡◌ {A = ℕ} 0 1 = cc in absurd (omega arith)
+turned_by_lem n s (Err c) m e = absurd (cc)
 
 pub turned_ok : (n : ℕ) (s : Stage) (bs : List ℕ) (m : Moved) → turned n s bs ≡ Ok m → (p : Piece) × (first_record bs ≡ Ok p) × (stepped s p ≡ Ok m)
 turned_ok n s bs m e = turned_by_lem n s (first_record bs) m e

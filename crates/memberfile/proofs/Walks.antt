@@ -21,7 +21,7 @@ use Rattle.memberfile.proofs.Turns.{turned_ok, rows_of, rows_logged, Shut, shut_
 
 -- a record takes bytes off
 pub less : (bs : List ℕ) (p : Piece) → first_record bs ≡ Ok p → length (drop (gone bs) bs) < length bs
-less [] p e = let z : ◌≡◌ {A = ℕ} 0 1 = cc in absurd (omega arith)
+less [] p e = absurd (cc)
 less (b ∷ bs) p e = omega (arith, ap gone_by e, length-drop (gone (b ∷ bs)) (b ∷ bs))
 
 same_by : (r : Result Piece Refusal) (xs ys : List Row) → ((p : Piece) → r ≡ Ok p → xs ≡ ys) → walked_by r xs ≡ walked_by r ys
@@ -84,16 +84,16 @@ stepped_on k n s g bs m rs t e =
 
 onward_ok : (q : Result Moved Fault) (end : Header → Verdict) (go : Moved → Verdict) (f : FileValue) → onward None q end go ≡ Ok f → (m : Moved) × (q ≡ Ok m) × (go m ≡ Ok f)
 onward_ok (Ok m) end go f e = (m, refl, e)
-onward_ok (Err x) end go f e = let z : ◌≡◌ {A = ℕ} 0 1 = cc in absurd (omega arith)
+onward_ok (Err x) end go f e = absurd (cc)
 
 ended_rows : (h : Header) (g : Log) (n k : ℕ) (bs : List ℕ) (f : FileValue) → g.held ≡ [] → ended h g n bs ≡ Ok f → rows_of g ++ walked k bs ≡ all_rows f.batches
 ended_rows h g n k [] f shut e =
     let same : record { header = h; batches = g.closed } ≡ f = cc in
     ap (λ l. rows_of g ++ l) (walked_nil k) ∙ append-nil (rows_of g) ∙ ap (λ l. all_rows g.closed ++ l) shut ∙ append-nil (all_rows g.closed) ∙ ap (λ x. all_rows x.batches) same
-ended_rows h g n k (b ∷ bs) f shut e = let z : ◌≡◌ {A = ℕ} 0 1 = cc in absurd (omega arith)
+ended_rows h g n k (b ∷ bs) f shut e = absurd (cc)
 
 run_rows : (k : ℕ) (s : Stage) (g : Log) (n : ℕ) (bs : List ℕ) (f : FileValue) → Shut s g → run k s g n bs ≡ Ok f → rows_of g ++ walked k bs ≡ all_rows f.batches
-run_rows zero s g n bs f h e = let z : ◌≡◌ {A = ℕ} 0 1 = cc in absurd (omega arith)
+run_rows zero s g n bs f h e = absurd (cc)
 run_rows (suc k) BeforeHeader g n bs f h e =
     let q = onward_ok (turned n BeforeHeader bs) _ _ f e in
     stepped_on k n BeforeHeader g bs q.0 _ q.1 (run_rows k q.0.stage (logged BeforeHeader q.0 g) (n + gone bs) (drop (gone bs) bs) f (shut_on n BeforeHeader bs q.0 g q.1 h) q.2)
@@ -109,10 +109,10 @@ run_rows (suc k) (AfterEnd a) g n bs f h e = ended_rows a.header g n (suc k) bs 
 pub rows_said : (bs : List ℕ) (f : FileValue) → judge bs ≡ Ok f → rows_in bs ≡ all_rows f.batches
 rows_said bs f e =
     ⊎_elim
-    (λ long. let x = judge_long bs long in let z : ◌≡◌ {A = ℕ} 0 1 = cc in absurd (omega arith))
+    (λ long. let x = judge_long bs long in absurd (cc))
     (λ short. rows_in_lem (suc (length bs)) bs (omega arith) ∙ run_rows (suc (length bs)) BeforeHeader blank 0 bs f refl (sym (judge_short bs short) ∙ e))
     (order 65535 (length bs))
 
 -- one turn of the walk
-pub walk_on : (bs : List ℕ) (p : Piece) (n : ℕ) (o : Option Row) → Ok p ≡ first_record bs → n ≡ length p.value → o ≡ row_of p → rows_in bs ≡ option_to_list o ++ rows_in (take (length bs - (3 + n)) (drop (3 + n) bs))
-walk_on bs p n o e l r = rows_on bs p (sym e) ∙ (λ i. option_to_list (sym r i) ++ rows_in ((ap (λ k. drop (3 + k) bs) (sym l) ∙ sym (rest_is (3 + n) bs)) i))
+pub walk_on : (bs : List ℕ) (p : Piece) (n : ℕ) (o : Option Row) → Ok p ≡ first_record bs → n ≡ 3 + length p.value → o ≡ row_of p → rows_in bs ≡ option_to_list o ++ rows_in (take (length bs - n) (drop n bs))
+walk_on bs p n o e l r = rows_on bs p (sym e) ∙ (λ i. option_to_list (sym r i) ++ rows_in ((ap (λ k. drop k bs) (sym l) ∙ sym (rest_is n bs)) i))

@@ -3,3 +3,4 @@ pub mod Layout
 pub mod Stages
 pub mod Judge
 pub mod Walk
+pub mod Rows

@@ -2,6 +2,7 @@
 ghost use Rattle.std.specs.Prelude.{◌≡◌, ℕ, ◌+◌, ◌<◌, ◌≤◌, length, drop, IfOk, OnOk};
 ghost use Rattle.memberfile.specs.Judge.{gone, judge, summed, turned};
 ghost use Rattle.memberfile.specs.Stages.{Room};
+ghost use Rattle.wire.specs.Readers.{bytes_of, place_of};
 
 use crate::header::Header;
 use crate::stage::{Moved, Stage, step};
@@ -24,19 +25,18 @@ pub struct Summary {
 
 // Reads one record and takes the step that it asks for; a fault of either rises as it is.
 fn turn(reader: &mut Reader, stage: Stage) -> Result<Moved, Fault>
-    requires short { length reader.old.bytes.now ≤ 65535 }
-    requires room { Room reader.old.at stage }
-    ensures value { result ≡ turned reader.old.at stage (drop reader.old.at reader.old.bytes.now) }
-    ensures after { OnOk result (reader.new.at ≡ reader.old.at + gone (drop reader.old.at reader.old.bytes.now)) }
-    ensures far { OnOk result (reader.old.at < reader.new.at) }
-    ensures within { reader.new.at ≤ length reader.old.bytes.now }
-    ensures bytes { reader.new.bytes.now ≡ reader.old.bytes.now }
-    ensures room { IfOk result (λ m. Room reader.new.at m.stage) }
+    requires short { length (bytes_of reader.old) ≤ 65535 }
+    requires room { Room (place_of reader.old) stage }
+    ensures value { result ≡ turned (place_of reader.old) stage (drop (place_of reader.old) (bytes_of reader.old)) }
+    ensures after { OnOk result (place_of reader.new ≡ place_of reader.old + gone (drop (place_of reader.old) (bytes_of reader.old))) }
+    ensures far { OnOk result (place_of reader.old < place_of reader.new) }
+    ensures within { place_of reader.new ≤ length (bytes_of reader.old) }
+    ensures bytes { bytes_of reader.new ≡ bytes_of reader.old }
+    ensures room { IfOk result (λ m. Room (place_of reader.new) m.stage) }
 {
     let place = reader.place();
     let met = reader.next()?;
-    let moved = step(stage, met, place)?;
-    Ok(moved)
+    step(stage, met, place)
 }
 
 // What the file in the bytes is, or its first fault.
@@ -48,19 +48,19 @@ pub fn check(bytes: &[u8]) -> Result<Summary, Fault>
     }
     let mut reader = Reader::new(bytes);
     let mut stage = Stage::BeforeHeader;
-    loop {
+    let sofar = loop {
         if let Stage::AfterEnd(sofar) = stage {
-            if !reader.is_done() {
-                return Err(Fault::in_file(Refusal::OutOfOrder, reader.place()));
-            }
-            return Ok(Summary {
-                header: sofar.header,
-                batches: sofar.batches,
-                rows: sofar.totals.count,
-                presentations: sofar.presentations,
-            });
+            break sofar;
         }
-        let moved = turn(&mut reader, stage)?;
-        stage = moved.stage;
+        stage = turn(&mut reader, stage)?.stage;
+    };
+    if !reader.is_done() {
+        return Err(Fault::in_file(Refusal::OutOfOrder, reader.place()));
     }
+    Ok(Summary {
+        header: sofar.header,
+        batches: sofar.batches,
+        rows: sofar.totals.count,
+        presentations: sofar.presentations,
+    })
 }

@@ -1,11 +1,13 @@
 // The header of a member file, in range.
-ghost use Rattle.memberfile.specs.Headers.{header_of, ranged};
-ghost use Rattle.std.specs.Prelude.{◌≡◌};
+ghost use Rattle.memberfile.specs.Headers.{header_of, ranged, raw_of};
+ghost use Rattle.std.specs.Prelude.{◌≡◌, ok_or};
+ghost use Rattle.terms.specs.declared.refusal.Refusal.TheVariants.{HeaderValue};
 
 use terms::currency::Currency;
 use terms::cycle::Cycle;
 use terms::date::is_day;
 use terms::file_kind::FileKind;
+use terms::refusal::Refusal;
 use wire::values::RawHeader;
 
 #[derive(Clone, Copy)]
@@ -27,18 +29,20 @@ fn is_ranged(raw: RawHeader) -> bool
     1 <= raw.origin && raw.origin <= 999 && 1 <= raw.number && raw.number <= 99 && is_day(raw.date)
 }
 
-impl Header {
-    // The header that the bytes say, if each of its values is in range.
-    pub fn of(raw: RawHeader) -> Option<Header>
-        ensures { result ≡ header_of raw }
-    {
-        let kind = FileKind::of(raw.kind)?;
-        let currency = Currency::of(raw.currency)?;
-        let cycle = Cycle::of(raw.cycle)?;
+// The header that the bytes say, if each of its values is in range.
+impl TryFrom<RawHeader> for Header {
+    type Error = Refusal;
+
+    ghost try_from_gives = { λ raw answer. answer ≡ ok_or (header_of raw) HeaderValue };
+
+    fn try_from(raw: RawHeader) -> Result<Header, Refusal> {
+        let kind = FileKind::try_from(raw.kind).map_err(|_| Refusal::HeaderValue)?;
+        let currency = Currency::try_from(raw.currency).map_err(|_| Refusal::HeaderValue)?;
+        let cycle = Cycle::try_from(raw.cycle).map_err(|_| Refusal::HeaderValue)?;
         if !is_ranged(raw) {
-            return None;
+            return Err(Refusal::HeaderValue);
         }
-        Some(Header {
+        Ok(Header {
             kind,
             currency,
             cycle,
@@ -46,5 +50,21 @@ impl Header {
             date: raw.date,
             number: raw.number,
         })
+    }
+}
+
+// The numbers that say a header.
+impl From<Header> for RawHeader {
+    ghost from_gives = { λ header raw. raw ≡ raw_of header };
+
+    fn from(header: Header) -> RawHeader {
+        RawHeader {
+            kind: u8::from(header.kind),
+            currency: u8::from(header.currency),
+            cycle: u8::from(header.cycle),
+            origin: header.origin,
+            date: header.date,
+            number: header.number,
+        }
     }
 }

@@ -27,35 +27,33 @@ pub struct Rows<'a> {
 }
 
 impl<'a> Rows<'a> {
+    ghost use Rattle.memberfile.specs.Rows.{bytes_left};
+
     // The rows in the bytes.
     pub fn new(bytes: &'a [u8]) -> Rows<'a>
-        ensures { result.rest.now ≡ bytes.now }
+        ensures { bytes_left result ≡ bytes.now }
     {
         Rows { rest: bytes }
     }
+}
 
-    // The next row; what is no row is passed over.
-    pub fn next_row(&mut self) -> Option<Row>
-        ensures { Parted result (rows_in self.old.rest.now) (rows_in self.new.rest.now) }
-    {
+impl<'a> Iterator for Rows<'a> {
+    ghost use Rattle.memberfile.specs.Rows.{bytes_left};
+
+    type Item = Row;
+
+    ghost next_gives = { λ s r t. Parted r (rows_in (bytes_left s)) (rows_in (bytes_left t)) };
+
+    ghost remaining = { λ s. at_most (length (rows_in (bytes_left s))) };
+
+    // What is no row is passed over.
+    fn next(&mut self) -> Option<Row> {
         while let Ok(met) = first_record(self.rest) {
-            self.rest = &self.rest[3 + met.value().len()..];
+            self.rest = &self.rest[met.encoded_len()..];
             if let Some(row) = row_of(met) {
                 return Some(row);
             }
         }
         None
-    }
-}
-
-impl<'a> Iterator for Rows<'a> {
-    type Item = Row;
-
-    ghost next_gives = { λ s r t. Parted r (rows_in s.rest.now) (rows_in t.rest.now) };
-
-    ghost remaining = { λ s. at_most (length (rows_in s.rest.now)) };
-
-    fn next(&mut self) -> Option<Row> {
-        self.next_row()
     }
 }

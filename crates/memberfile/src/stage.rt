@@ -1,6 +1,6 @@
 // Where the check of a file stands, and how a record moves it on.
 ghost use Rattle.std.specs.Prelude.{◌≡◌, ℕ, ◌+◌, ◌<◌, ◌≤◌, length, IfOk};
-ghost use Rattle.memberfile.specs.Stages.{Room, batch_closed, batch_opened, file_closed, file_opened, step_at, stepped, takes};
+ghost use Rattle.memberfile.specs.Stages.{Room, batch_closed, batch_opened, file_closed, file_opened, goes_to, step_at, stepped, takes};
 ghost use Rattle.wire.specs.Records.{Sized, said};
 ghost use Rattle.wire.specs.Rows.{Even};
 
@@ -44,25 +44,27 @@ pub struct Moved {
     pub row: Option<Row>,
 }
 
+// A move by a record that is no row.
+fn moved_to(stage: Stage) -> Moved
+    ensures { result ≡ goes_to stage }
+{
+    Moved { stage, row: None }
+}
+
 fn open_file(v: &[u8]) -> Result<Moved, Refusal>
     requires { length v.now ≡ 10 }
     ensures value { result ≡ file_opened v.now }
     ensures room { IfOk result (λ m. (n : ℕ) → Room n m.stage) }
 {
-    let Some(header) = Header::of(raw_header_in(v)) else {
-        return Err(Refusal::HeaderValue);
-    };
+    let header = Header::try_from(raw_header_in(v))?;
     let sofar = Sofar {
         header,
         batches: 0,
         last: 0,
         presentations: 0,
-        totals: Totals::none(),
+        totals: Totals::default(),
     };
-    Ok(Moved {
-        stage: Stage::Between(sofar),
-        row: None,
-    })
+    Ok(moved_to(Stage::Between(sofar)))
 }
 
 fn open_batch(sofar: Sofar, v: &[u8]) -> Result<Moved, Refusal>
@@ -79,12 +81,9 @@ fn open_batch(sofar: Sofar, v: &[u8]) -> Result<Moved, Refusal>
     }
     let batch = OpenBatch {
         number: head.number,
-        totals: Totals::none(),
+        totals: Totals::default(),
     };
-    Ok(Moved {
-        stage: Stage::InBatch(sofar, batch),
-        row: None,
-    })
+    Ok(moved_to(Stage::InBatch(sofar, batch)))
 }
 
 fn take(sofar: Sofar, batch: OpenBatch, row: Row) -> Result<Moved, Refusal>
@@ -119,7 +118,7 @@ fn close_batch(sofar: Sofar, batch: OpenBatch, v: &[u8]) -> Result<Moved, Refusa
     if closing.number != batch.number {
         return Err(Refusal::BatchNumber);
     }
-    if !closing.totals.same(batch.totals) {
+    if closing.totals != batch.totals {
         return Err(Refusal::TotalDiffers);
     }
     let sofar = Sofar {
@@ -127,10 +126,7 @@ fn close_batch(sofar: Sofar, batch: OpenBatch, v: &[u8]) -> Result<Moved, Refusa
         last: batch.number,
         ..sofar
     };
-    Ok(Moved {
-        stage: Stage::Between(sofar),
-        row: None,
-    })
+    Ok(moved_to(Stage::Between(sofar)))
 }
 
 fn close_file(sofar: Sofar, v: &[u8]) -> Result<Moved, Refusal>
@@ -139,13 +135,10 @@ fn close_file(sofar: Sofar, v: &[u8]) -> Result<Moved, Refusal>
     ensures room { IfOk result (λ m. (n : ℕ) → Room n m.stage) }
 {
     let closing = closing_in(v);
-    if closing.number != sofar.batches || !closing.totals.same(sofar.totals) {
+    if closing.number != sofar.batches || closing.totals != sofar.totals {
         return Err(Refusal::TotalDiffers);
     }
-    Ok(Moved {
-        stage: Stage::AfterEnd(sofar),
-        row: None,
-    })
+    Ok(moved_to(Stage::AfterEnd(sofar)))
 }
 
 // Where the check stands and the record that it meets decide the next step.
@@ -175,6 +168,7 @@ pub(crate) fn step(stage: Stage, met: Record, place: usize) -> Result<Moved, Fau
     ensures value { result ≡ step_at place stage (said met.entry) }
     ensures room { IfOk result (λ m. (n : ℕ) → Room n stage → Room (n + 1) m.stage) }
 {
+    // A match: with `map_err` what has moved is copied once more for each record, and the file check takes half as long again.
     match decide(stage, met) {
         Ok(moved) => Ok(moved),
         Err(cause) => Err(Fault::in_file(cause, place)),

@@ -1,48 +1,23 @@
 -- How long a result is, and what its writing answers.
-use Rattle.std.proofs.Common.{◌≡◌, ℕ, zero, suc, ◌+◌, ◌*◌, ◌<◌, ◌≤◌, Bool, true, false, cond, not, ltb, List, [], ◌∷◌, ◌++◌, length, Some, None, Ok, Err, sym, refl, ap, ◌∙◌, inl, inr, add-one, arith, length-append, le-ltb, lt-ltb}
-use Rattle.std.proofs.lemmas.List.{get_or_past}
-use Rattle.std.proofs.lemmas.Bool.{cases_lt}
+use Rattle.std.proofs.Common.{◌≡◌, ℕ, zero, suc, ◌+◌, ◌*◌, ◌≤◌, true, false, cond, List, [], ◌∷◌, ◌++◌, length, sym, ap, ◌∙◌, add-one, arith, length-append}
 use Rattle.terms.specs.Dockets.{day_of, roll_of}
-use Rattle.terms.specs.declared.refusal.Refusal.TheVariants.{NotCleared, BufferShort}
 use Rattle.terms.specs.declared.currency.Currency.{Currency}
 use Rattle.terms.specs.declared.cycle.Cycle.{Cycle}
-use Rattle.clearing.specs.Choices.{entry_at, no_entry}
-use Rattle.clearing.specs.declared.entry.Entry.{Entry}
-use Rattle.table.specs.Entries.{entries_of, entry_in, kept_of}
+use Rattle.clearing.specs.Choices.{entry_at}
+use Rattle.table.specs.Entries.{entries_of}
 use Rattle.pen.specs.Buffer.{Wrote, fronted}
 use Rattle.pen.proofs.Lent.{wrote_as, wrote_front, wrote_more}
 use Rattle.table.proofs.Held.{held_long}
 use Rattle.session.proofs.Rolls.{roll_few}
 use Rattle.session.specs.Questions.{mark_of}
-use Rattle.session.specs.Refusals.{first_holding, rule, unless}
 use Rattle.session.specs.declared.session.Session.{Session}
-use Rattle.session.specs.declared.session.mark.Mark.TheVariants.{Unmarked, Kept, Withdrawn, Returned}
-use Rattle.result.specs.Answers.{result_answer, result_bytes}
+use Rattle.result.specs.Answers.{result_bytes}
 use Rattle.result.specs.Gathered.{each_of}
 use Rattle.result.specs.Layout.{FitsTotals, enc_header, enc_member, enc_totals, enc_withdrawn, positive_sum}
 use Rattle.result.specs.Value.{is_withdrawn, line_at, lines_of, result_of, withdrawn_at, withdrawn_of, withdrawn_up_to}
 use Rattle.result.proofs.Gathering.{gathered_more, gathered_none, gathered_ones}
 use Rattle.result.proofs.Numbers.{sum_low}
 use Rattle.result.proofs.Written.{members_long, withdrawn_long}
-
--- nothing past the last entry is withdrawn
-pub withdrawn_past : (s : Session) (i : ℕ) → length (entries_of s.table) ≤ i → [] ≡ withdrawn_at s i
-withdrawn_past s i h =
-    let es = entries_of s.table in
-    let k = kept_of s.table i in
-    let e : entry_at es i ≡ no_entry = get_or_past es i no_entry h in
-    let at : Bool → Bool → List Entry = λ c b. cond (is_withdrawn (cond c (cond b Returned (cond k Kept Withdrawn)) Unmarked)) (entry_at es i ∷ []) [] in
-    let none : (c : Bool) → at c true ≡ [] = λ c. elim c as (λ v. at v true ≡ []) [ true ↦ refl | false ↦ refl ] in
-    sym (ap (λ (x : Entry). at s.cleared x.returned) e ∙ none s.cleared)
-
--- nor where no entry stands
-pub withdrawn_none : (s : Session) (i : ℕ) → None ≡ entry_in (entries_of s.table) i → [] ≡ withdrawn_at s i
-withdrawn_none s i e =
-    let es = entries_of s.table in
-    elim (cases_lt i (length es)) [
-      | inl l ↦ absurd (let f : None ≡ Some (entry_at es i) = e ∙ ap (λ b. cond b (Some (entry_at es i)) None) (lt-ltb i (length es) l) in let z : ◌≡◌ {A = ℕ} 0 1 = cc in omega arith)
-      | inr l ↦ withdrawn_past s i l
-    ]
 
 -- 9 bytes for the header, 21 for each member, 18 for each withdrawn record and 15 for the totals
 pub result_long : (s : Session) → length (result_bytes s) ≡ length (roll_of s.docket) * 21 + length (withdrawn_of s) * 18 + 24
@@ -51,15 +26,6 @@ result_long s =
     let ws = withdrawn_of s in
     let t = enc_totals (length ms) (length ws) (positive_sum ms) in
     omega (arith, length-append (each_of enc_member ms) (each_of enc_withdrawn ws ++ t), length-append (each_of enc_withdrawn ws) t, members_long ms, withdrawn_long ws, gathered_ones (line_at s) (length (roll_of s.docket)))
-
-pub answers_not_cleared : (s : Session) (room : ℕ) → s.cleared ≡ false → Err NotCleared ≡ result_answer s room
-answers_not_cleared s room e = sym (λ i. unless (first_holding (rule NotCleared (not (e i)) ∷ rule BufferShort (ltb room (length (result_bytes s))) ∷ [])) (length (result_bytes s)))
-
-pub answers_short : (s : Session) (room : ℕ) → s.cleared ≡ true → room < length (result_bytes s) → Err BufferShort ≡ result_answer s room
-answers_short s room e h = sym (λ i. unless (first_holding (rule NotCleared (not (e i)) ∷ rule BufferShort (lt-ltb room (length (result_bytes s)) h i) ∷ [])) (length (result_bytes s)))
-
-pub answers_length : (s : Session) (room n : ℕ) → s.cleared ≡ true → length (result_bytes s) ≤ room → n ≡ length (result_bytes s) → Ok n ≡ result_answer s room
-answers_length s room n e h l = ap Ok l ∙ sym (λ i. unless (first_holding (rule NotCleared (not (e i)) ∷ rule BufferShort (le-ltb room (length (result_bytes s)) h i) ∷ [])) (length (result_bytes s)))
 
 -- the records of a session, written one behind another from the start on, are its result
 pub all_written_lem : (s : Session) (currency : Currency) (cycle : Cycle) (date members withdrawn sum : ℕ) {old o1 o2 o3 o4 : List ℕ} {e1 e2 e3 e4 : ℕ} →

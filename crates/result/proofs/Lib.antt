@@ -1,4 +1,5 @@
 pub mod Gathering
+pub mod Chosen
 pub mod Written
 pub mod Numbers
 pub mod Answered

@@ -1,4 +1,5 @@
 pub mod Gathered
+pub mod Kinds
 pub mod Layout
 pub mod Value
 pub mod Answers

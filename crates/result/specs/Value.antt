@@ -5,6 +5,7 @@ use Rattle.clearing.specs.Choices.{entry_at}
 use Rattle.clearing.specs.Table.{cover_of}
 use Rattle.clearing.specs.declared.entry.Entry.{Entry}
 use Rattle.table.specs.Entries.{entries_of}
+use Rattle.session.specs.Parts.{covers_of, docket_of, table_of}
 use Rattle.session.specs.Questions.{mark_of, position_at}
 use Rattle.session.specs.declared.session.Session.{Session}
 use Rattle.session.specs.declared.session.mark.Mark.{Mark}
@@ -15,11 +16,11 @@ use Rattle.result.specs.declared.member_line.MemberLine.{MemberLine}
 
 -- a member with the position and the cover at a place on the roll
 abbrev pub line_of : Session → ℕ → ℕ → MemberLine
-line_of s code place = record { code = code; position = position_at s place; cover = cover_of s.covers place }
+line_of s code place = record { code = code; position = position_at s place; cover = cover_of (covers_of s) place }
 
 -- the member at a place on the roll
 abbrev pub line_at : Session → ℕ → MemberLine
-line_at s place = line_of s (slice_index (roll_of s.docket) place) place
+line_at s place = line_of s (slice_index (roll_of (docket_of s)) place) place
 
 -- the first n members along the roll
 abbrev pub lines_up_to : Session → ℕ → List MemberLine
@@ -34,7 +35,7 @@ is_withdrawn Returned = false
 
 -- the entry at a place, where it is marked withdrawn
 abbrev pub withdrawn_at : Session → ℕ → List Entry
-withdrawn_at s i = cond (is_withdrawn (mark_of s i)) (entry_at (entries_of s.table) i ∷ []) []
+withdrawn_at s i = cond (is_withdrawn (mark_of s i)) (entry_at (entries_of (table_of s)) i ∷ []) []
 
 -- what is marked withdrawn among the first n entries
 abbrev pub withdrawn_up_to : Session → ℕ → List Entry
@@ -42,11 +43,11 @@ withdrawn_up_to s n = gathered (withdrawn_at s) n
 
 -- all members, along the roll
 abbrev pub lines_of : Session → List MemberLine
-lines_of s = lines_up_to s (length (roll_of s.docket))
+lines_of s = lines_up_to s (length (roll_of (docket_of s)))
 
 -- all withdrawn entries, by session number
 abbrev pub withdrawn_of : Session → List Entry
-withdrawn_of s = withdrawn_up_to s (length (entries_of s.table))
+withdrawn_of s = withdrawn_up_to s (length (entries_of (table_of s)))
 
 -- the one entry there is, or none
 abbrev pub listed : Option Entry → List Entry
@@ -57,9 +58,9 @@ listed None = []
 abbrev pub result_of : Session → ResultValue
 result_of s =
     record {
-      currency = (day_of s.docket).currency;
-      cycle = (day_of s.docket).cycle;
-      date = (day_of s.docket).date;
+      currency = (day_of (docket_of s)).currency;
+      cycle = (day_of (docket_of s)).cycle;
+      date = (day_of (docket_of s)).date;
       members = lines_of s;
       withdrawn = withdrawn_of s;
     }

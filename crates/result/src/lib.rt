@@ -1,9 +1,8 @@
 // The result file of a cleared session.
 #![tactic(auto)]
 
+mod cleared;
 pub mod example;
 pub mod file;
 pub mod member_line;
-mod members;
 mod records;
-mod withdrawn;

@@ -1,19 +1,16 @@
 -- One more report in a list: where it is written, and what the list says afterwards.
-use Rattle.std.proofs.Common.{◌≡◌, ℕ, zero, suc, ◌+◌, ◌<◌, ◌≤◌, max, true, false, cond, ◌||◌, eqb, ltb, List, [], ◌∷◌, length, take, set, refl, ap, inl, inr, arith}
+use Rattle.std.proofs.Common.{◌≡◌, ℕ, zero, suc, ◌+◌, ◌<◌, ◌≤◌, max, true, false, cond, ◌||◌, eqb, ltb, List, [], ◌∷◌, length, take, set, Some, None, Option, refl, ap, inl, inr, arith}
 use Rattle.std.proofs.lemmas.Bool.{cases_eq, cases_lt, eq-eqb, lt-ltb, ne_eqb}
 use Rattle.std.proofs.lemmas.List.{length-take-le}
 use Rattle.std.proofs.lemmas.Bool.Decides.{nat_tests}
-use Rattle.rules.specs.Reports.{Reported, amount_at, amount_of, are_apart, code_at, has_room, holds}
+use Rattle.std.specs.Option.{MatchOption, unwrap_or}
+use Rattle.rules.specs.Reports.{FirstFor, Misses, Reported, amount_at, amount_of, are_apart, code_at, has_room, holds}
 use Rattle.rules.specs.declared.book.Report.{Report}
 
 -- the list with the report in place of the one for its code, or behind all
 abbrev pub entered : Report → List Report → List Report
 entered r [] = r ∷ []
 entered r (x ∷ xs) = cond (eqb x.code r.code) (r ∷ xs) (x ∷ entered r xs)
-
--- nothing before the place i is for the code
-abbrev pub Misses : ℕ → List Report → ℕ → Type 0
-Misses code xs i = (k : ℕ) → k < i → code_at xs k ≡ code → ⊥
 
 misses_rest : (code : ℕ) (x : Report) (xs : List Report) (i : ℕ) → Misses code (x ∷ xs) (suc i) → Misses code xs i
 misses_rest code x xs i m k l = m (suc k) (omega arith)
@@ -49,7 +46,7 @@ amount_missed (x ∷ xs) (suc n) code m h =
     rw (ne_eqb x.code code (m 0 (omega arith))) (amount_missed xs n code (misses_rest code x xs n m) (omega arith))
 
 -- there is room exactly where the search ended before the last place
-pub room : (xs : List Report) (i n code : ℕ) → length xs ≡ 64 → i ≤ n → n ≤ 64 → Misses code xs i → (i < n → code_at xs i ≡ code) → has_room code (take n xs) ≡ ltb i 64
+room : (xs : List Report) (i n code : ℕ) → length xs ≡ 64 → i ≤ n → n ≤ 64 → Misses code xs i → (i < n → code_at xs i ≡ code) → has_room code (take n xs) ≡ ltb i 64
 room xs i n code e a b m f =
     elim (cases_lt i n) [
       | inl l ↦ let h = found xs i n code l (omega arith) (f l) in let t = lt-ltb i 64 (omega arith) in grind (arith, nat_tests)
@@ -78,7 +75,7 @@ appended (x ∷ xs) (suc n) r h m =
     (ap {B = List Report} (λ t. x ∷ t) (appended xs n r (omega arith) (misses_rest r.code x xs n m)))
 
 -- written at the place where a search for its code ended, m reports are held
-pub written : (xs : List Report) (i n m : ℕ) (r : Report) → i ≤ n → i < length xs → n ≤ length xs → Misses r.code xs i → (i < n → code_at xs i ≡ r.code) → m ≡ max n (i + 1) → take m (set xs i r) ≡ entered r (take n xs)
+written : (xs : List Report) (i n m : ℕ) (r : Report) → i ≤ n → i < length xs → n ≤ length xs → Misses r.code xs i → (i < n → code_at xs i ≡ r.code) → m ≡ max n (i + 1) → take m (set xs i r) ≡ entered r (take n xs)
 written xs i n m r a b h before at e =
     elim (cases_lt i n) [
       | inl l ↦ let t : m ≡ n = omega arith in rw t (replaced xs i n r l h before (at l))
@@ -87,6 +84,21 @@ written xs i n m r a b h before at e =
           let s : i ≡ n = omega arith in
           rw (t, s) (appended xs n r (omega arith) (rw s at before))
     ]
+
+-- A report goes over the first for its code, or behind all in use: `o` is the place of the first, `at` where the report goes, and m reports are held then.
+pub record EntersAt (xs : List Report) (n at : ℕ) (r : Report) : Type 0 where
+  pub room : has_room r.code (take n xs) ≡ ltb at 64
+  pub taken : (m : ℕ) → at < 64 → m ≡ max n (at + 1) → take m (set xs at r) ≡ entered r (take n xs)
+
+pub enters_at : (o : Option ℕ) (xs : List Report) (n : ℕ) (r : Report) → length xs ≡ 64 → n ≤ 64 → MatchOption o (Misses r.code xs n) (λ at. FirstFor r.code xs n at) → EntersAt xs n (unwrap_or o n) r
+enters_at (Some at) xs n r e h f = record {
+  room = room xs at n r.code e (omega (arith, f.within)) h f.before (λ _. f.found);
+  taken = λ m l k. written xs at n m r (omega (arith, f.within)) (omega arith) (omega arith) f.before (λ _. f.found) k;
+}
+enters_at None xs n r e h f = record {
+  room = room xs n n r.code e (omega arith) h f (λ l. absurd (omega arith));
+  taken = λ m l k. written xs n n m r (omega arith) (omega arith) (omega arith) f (λ l. absurd (omega arith)) k;
+}
 
 -- what the list says after the report: of its code, of the others, of who is held, and of how many
 own : (r : Report) (xs : List Report) → amount_of r.code (entered r xs) ≡ r.amount

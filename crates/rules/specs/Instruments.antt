@@ -4,6 +4,7 @@ use Rattle.terms.specs.declared.currency.Currency.{Currency}
 use Rattle.terms.specs.declared.currency.Currency.TheVariants.{Soles, Dollars}
 use Rattle.rules.specs.declared.instrument.Denial.{Denial}
 use Rattle.rules.specs.declared.instrument.Denial.TheVariants.{RecordType, Limits}
+use Rattle.rules.specs.declared.instruments.AmountLimits.{AmountLimits}
 use Rattle.rules.specs.declared.instruments.AnyInstrument.{AnyInstrument}
 use Rattle.rules.specs.declared.instruments.AnyInstrument.TheVariants.{Transfers, Debits}
 use Rattle.rules.specs.Meaning.{Meaning}
@@ -12,6 +13,11 @@ use Rattle.rules.specs.Ranges.{is_from}
 -- the worth where type and values are those of the instrument; the type comes first
 abbrev pub worth_if : Bool → Bool → ℕ → Result ℕ Denial
 worth_if own_type lawful worth = cond own_type (cond lawful (Ok worth) (Err Limits)) (Err RecordType)
+
+-- the limit for a currency
+abbrev pub limit_of : AmountLimits → Currency → ℕ
+limit_of limits Soles = limits.soles
+limit_of limits Dollars = limits.dollars
 
 -- the highest amount of a transfer, in céntimos
 abbrev pub transfer_limit : Currency → ℕ

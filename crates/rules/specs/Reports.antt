@@ -1,5 +1,5 @@
 -- Lists of reports: the amount that is held for each member code.
-use Rattle.std.specs.Prelude.{◌≡◌, ℕ, ◌+◌, Bool, true, false, cond, not, ◌&&◌, ◌||◌, List, [], ◌∷◌, length, Ok, Err, Result, ◌==◌, ◌≢◌, nat_lt, slice_index_or}
+use Rattle.std.specs.Prelude.{◌≡◌, ℕ, ◌+◌, ◌<◌, Bool, true, false, cond, not, ◌&&◌, ◌||◌, List, [], ◌∷◌, length, Ok, Err, Result, ◌==◌, ◌≢◌, nat_lt, slice_index_or}
 use Rattle.terms.specs.declared.refusal.Refusal.{Refusal}
 use Rattle.terms.specs.declared.refusal.Refusal.TheVariants.{ReportLimits, TooManyReports}
 use Rattle.rules.specs.declared.book.Report.{Report}
@@ -26,6 +26,16 @@ code_at rs i = (slice_index_or rs i (record { code = 0; amount = 0 })).code
 -- and its amount
 abbrev pub amount_at : List Report → ℕ → ℕ
 amount_at rs i = (slice_index_or rs i (record { code = 0; amount = 0 })).amount
+
+-- nothing before the place n is for the code
+abbrev pub Misses : ℕ → List Report → ℕ → Type 0
+Misses code rs n = (k : ℕ) → k < n → code_at rs k ≢ code
+
+-- the place is the first for the code, and among the first n
+pub record FirstFor (code : ℕ) (rs : List Report) (n at : ℕ) : Type 0 where
+  pub within : at < n
+  pub before : Misses code rs at
+  pub found : code_at rs at ≡ code
 
 -- What a report that is taken does: its code has the amount, every other code what it had, and no code besides is held.
 pub record Reported (code amount : ℕ) (old new : List Report) : Type 0 where

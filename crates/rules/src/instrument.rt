@@ -13,12 +13,12 @@ pub enum Denial {
     Limits,
 }
 
-impl Denial {
-    // The refusal that a row gets for it.
-    pub fn refusal(self) -> Refusal
-        ensures { result ≡ refusal_of self }
-    {
-        match self {
+// The refusal that a row gets for it.
+impl From<Denial> for Refusal {
+    ghost from_gives = { λ denial refusal. refusal ≡ refusal_of denial };
+
+    fn from(denial: Denial) -> Refusal {
+        match denial {
             Denial::RecordType => Refusal::RecordType,
             Denial::Limits => Refusal::NotAdmitted,
         }
@@ -29,7 +29,7 @@ pub trait Instrument {
     // All that the instrument answers: its meaning.
     ghost meaning: { Self → Meaning };
 
-    // The worth of an admitted record, or why it is not admitted.
+    // The worth of an admitted record, or why it is not admitted. The four are no struct, which each caller would put together and each instrument take apart.
     fn admit(
         &self,
         record_type: u8,

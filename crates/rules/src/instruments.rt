@@ -1,5 +1,6 @@
 // The shipped instruments, and either of them as one type.
-ghost use Rattle.rules.specs.Instruments.{any_instrument};
+ghost use Rattle.rules.specs.Instruments.{any_instrument, limit_of};
+ghost use Rattle.std.specs.Prelude.{◌≡◌};
 ghost use Rattle.std.proofs.Common.{rules};
 ghost use Rattle.rules.specs.declared.instruments.AnyInstrument.TheVariants.{Transfers, Debits};
 
@@ -9,12 +10,31 @@ pub mod transfers;
 use crate::instrument::{Denial, Instrument};
 use crate::instruments::debits::ChargedDebits;
 use crate::instruments::transfers::CreditTransfers;
+use std::fmt;
 use terms::currency::Currency;
 
 // The highest commission of every instrument.
 pub const COMMISSION_LIMIT: u16 = 10_000;
 
-// Either instrument, so that one list of calls can mix them.
+// The highest amount of an instrument in each currency.
+#[derive(Clone, Copy)]
+pub(crate) struct AmountLimits {
+    pub(crate) soles: u32,
+    pub(crate) dollars: u32,
+}
+
+impl AmountLimits {
+    pub(crate) fn of(self, currency: Currency) -> u32
+        ensures { result ≡ limit_of self currency }
+    {
+        match currency {
+            Currency::Soles => self.soles,
+            Currency::Dollars => self.dollars,
+        }
+    }
+}
+
+// Either instrument, so that one list of calls can mix them. Not one `Either` for instruments, rankings and sources, whose cases would say Left and Right.
 #[derive(Clone, Copy)]
 pub enum AnyInstrument {
     Transfers,
@@ -56,5 +76,14 @@ impl Instrument for AnyInstrument {
             AnyInstrument::Transfers => CreditTransfers.takes_returns(),
             AnyInstrument::Debits => ChargedDebits.takes_returns(),
         }
+    }
+}
+
+impl fmt::Display for AnyInstrument {
+    fn fmt<W: fmt::Write>(&self, f: &mut fmt::Formatter<W>) -> fmt::Result {
+        f.pad(match self {
+            AnyInstrument::Transfers => "transfers",
+            AnyInstrument::Debits => "debits",
+        })
     }
 }

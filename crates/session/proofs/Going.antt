@@ -1,5 +1,6 @@
 -- What one turn of taking rows keeps.
-use Rattle.std.proofs.Common.{◌≡◌, ℕ, suc, ◌+◌, ◌-◌, ◌<◌, ◌≤◌, cond, eqb, List, [], ◌∷◌, ◌++◌, length, take, drop, set, Ok, Err, Result, sym, refl, ap, ◌∙◌, subst, append_assoc, arith, length-append, length-set, take-append-drop, take-suc-set, drop-set-lt}
+use Rattle.std.proofs.Common.{◌≡◌, ℕ, suc, ◌+◌, ◌-◌, ◌≤◌, cond, eqb, List, [], ◌∷◌, ◌++◌, length, take, drop, set, Ok, Err, Result, sym, refl, ap, ◌∙◌, subst, subst₂, append_assoc, arith, length-append, length-set, take-suc-set, drop-set-lt}
+use Rattle.terms.specs.Codes.{code}
 use Rattle.terms.specs.Dockets.{Day}
 use Rattle.terms.specs.declared.refusal.Refusal.{Refusal}
 use Rattle.rules.specs.Meaning.{Meaning}
@@ -11,7 +12,8 @@ use Rattle.clearing.specs.Choices.{entry_at}
 use Rattle.table.specs.Entries.{as_returned}
 use Rattle.session.specs.Files.{counted}
 use Rattle.session.specs.Rows.{after_row, after_rows, entered, entries_by, outcome_of, outcomes, presentation_taken, put_in, return_taken, row_taken, struck_in, zeros}
-use Rattle.session.specs.declared.session.Sender.{Sender}
+use Rattle.session.specs.Senders.{SenderValue}
+use Rattle.session.proofs.Codes.{code_above}
 
 pub outcome_put : (es : List Entry) (r : Result Entry Refusal) → outcome_of (put_in es r) ≡ outcome_of r
 outcome_put es (Ok e) = refl
@@ -29,26 +31,30 @@ struck_long : (es : List Entry) (r : Result ℕ Refusal) → length (entries_by 
 struck_long es (Ok i) = omega (arith, length-set es i (as_returned (entry_at es i)))
 struck_long es (Err c) = omega arith
 
-module _ (day : Day) (m : Meaning) (s : Sender) where
+module _ (day : Day) (m : Meaning) (s : SenderValue) where
   -- a row adds one entry at most, and a return none
   row_long : (es : List Entry) (r : Row) → length (after_row day m s es r) ≤ length es + presentations r
   row_long es (Presentation p) = put_long es (presentation_taken day m s es p)
   row_long es (Return r) = omega (arith, struck_long es (return_taken s es r))
 
-  -- of all rows and a buffer, those left with the entries, the buffer, the place in it and the number of zeros so far
-  pub record Going (n : ℕ) (from : List Entry) (all : List Row) (start : List ℕ) (left : List Row) (es : List Entry) (out : List ℕ) (at taken : ℕ) : Type 0 where
+  -- of all rows and a buffer, those left with the entries, the buffer, the place in it, and how many rows so far were taken and how many got a code
+  pub record Going (n : ℕ) (from : List Entry) (all : List Row) (start : List ℕ) (left : List Row) (es : List Entry) (out : List ℕ) (at taken turned : ℕ) : Type 0 where
     pub wrote : take at out ++ (outcomes day m s es left ++ drop (at + length left) out) ≡ entered day m s from all start
     pub room : at + length left ≤ length out
     pub place : at + length left ≡ length all
     pub count : taken + zeros (outcomes day m s es left) ≡ zeros (outcomes day m s from all)
-    pub few : taken ≤ at
+    pub both : taken + turned ≡ at
     pub kept : after_rows day m s es left ≡ after_rows day m s from all
     pub held : length es + presented left ≤ n
 
-  module _ {n : ℕ} {from : List Entry} {all : List Row} {start : List ℕ} {es : List Entry} {out : List ℕ} {at taken : ℕ} where
-    pub enters : (rs left : List Row) (r : Row) (es' : List Entry) (v taken' : ℕ) → Going n from all start rs es out at taken → rs ≡ r ∷ left → v ≡ outcome_of (row_taken day m s es r) → es' ≡ after_row day m s es r → taken' ≡ taken + cond (eqb v 0) 1 0 → taken' ≤ taken + 1 → Going n from all start left es' (set out at v) (at + 1) taken'
-    enters rs left r es' v taken' g e ev eb et few =
-        let h : Going n from all start (r ∷ left) es out at taken = subst (λ x. Going n from all start x es out at taken) e g in
+  -- by the place of the row as a count of the rows says it
+  along : {n : ℕ} {from : List Entry} {all : List Row} {start : List ℕ} (left : List Row) (es : List Entry) (out : List ℕ) (v at i at' taken turned : ℕ) → Going n from all start left es (set out at v) (at + 1) taken turned → i ≡ at → at' ≡ at + 1 → Going n from all start left es (set out i v) at' taken turned
+  along {n = n} {from = from} {all = all} {start = start} left es out v at i at' taken turned g e f = subst₂ (λ j k. Going n from all start left es (set out j v) k taken turned) (sym e) (sym f) g
+
+  module _ {n : ℕ} {from : List Entry} {all : List Row} {start : List ℕ} {es : List Entry} {out : List ℕ} {at taken turned : ℕ} where
+    enters : (rs left : List Row) (r : Row) (es' : List Entry) (v taken' turned' : ℕ) → Going n from all start rs es out at taken turned → rs ≡ r ∷ left → v ≡ outcome_of (row_taken day m s es r) → es' ≡ after_row day m s es r → taken' ≡ taken + cond (eqb v 0) 1 0 → taken' + turned' ≡ at + 1 → Going n from all start left es' (set out at v) (at + 1) taken' turned'
+    enters rs left r es' v taken' turned' g e ev eb et both =
+        let h : Going n from all start (r ∷ left) es out at taken turned = subst (λ x. Going n from all start x es out at taken turned) e g in
         let cs : List ℕ = outcomes day m s es' left in
         let same : cs ≡ outcomes day m s (after_row day m s es r) left = ap (λ k. outcomes day m s k left) eb in
         let next : at + 1 ≡ suc at = omega arith in
@@ -60,33 +66,28 @@ module _ (day : Day) (m : Meaning) (s : Sender) where
           room = omega (arith, h.room, length-set out at v);
           place = omega (arith, h.place);
           count = omega (arith, h.count, ap zeros same, et, ap {B = ℕ} (λ x. cond (eqb x 0) 1 0) ev);
-          few = omega (arith, h.few);
+          both = both;
           kept = ap (λ k. after_rows day m s k left) eb ∙ h.kept;
           held = omega (arith, h.held, row_long es r, ap length eb);
         }
 
-    pub can_take : (rs left : List Row) (r : Row) → Going n from all start rs es out at taken → rs ≡ r ∷ left → length es + presentations r ≤ n
-    can_take rs left r g e = let h : Going n from all start (r ∷ left) es out at taken = subst (λ x. Going n from all start x es out at taken) e g in omega (arith, h.held)
+    -- a row that is taken, and one that gets a code
+    pub takes : (rs left : List Row) (r : Row) (es' : List Entry) (i at' : ℕ) → Going n from all start rs es out at taken turned → rs ≡ r ∷ left → i ≡ at → at' ≡ at + 1 → 0 ≡ outcome_of (row_taken day m s es r) → es' ≡ after_row day m s es r → Going n from all start left es' (set out i 0) at' (taken + 1) turned
+    takes rs left r es' i at' g e ei ea ev eb = along left es' out 0 at i at' (taken + 1) turned (enters rs left r es' 0 (taken + 1) turned g e ev eb refl (omega (arith, g.both))) ei ea
 
-    pub can_write : (rs left : List Row) (r : Row) → Going n from all start rs es out at taken → rs ≡ r ∷ left → at < length out
-    can_write rs left r g e = let h : Going n from all start (r ∷ left) es out at taken = subst (λ x. Going n from all start x es out at taken) e g in omega (arith, h.room)
+    pub turns : (rs left : List Row) (r : Row) (es' : List Entry) (i at' v : ℕ) (c : Refusal) → Going n from all start rs es out at taken turned → rs ≡ r ∷ left → i ≡ at → at' ≡ at + 1 → v ≡ code c → code c ≡ outcome_of (row_taken day m s es r) → es' ≡ after_row day m s es r → Going n from all start left es' (set out i v) at' taken (turned + 1)
+    turns rs left r es' i at' v c g e ei ea ev ec eb = along left es' out v at i at' taken (turned + 1) (enters rs left r es' v taken (turned + 1) g e (ev ∙ ec) eb (omega (arith, ap {B = ℕ} (λ x. cond (eqb x 0) 1 0) ev, ap {B = ℕ} (λ b. cond b 1 0) (code_above c))) (omega (arith, g.both))) ei ea
 
   length_outcomes : (es : List Entry) (rs : List Row) → length (outcomes day m s es rs) ≡ length rs
   length_outcomes es [] = refl
   length_outcomes es (r ∷ rs) = ap suc (length_outcomes (after_row day m s es r) rs)
 
-  module _ {n : ℕ} {from : List Entry} {all : List Row} {start : List ℕ} {left : List Row} {es : List Entry} {out : List ℕ} {at taken : ℕ} (g : Going n from all start left es out at taken) (e : left ≡ []) where
-    done : Going n from all start [] es out at taken
-    done = subst (λ x. Going n from all start x es out at taken) e g
+  module _ {n : ℕ} {from : List Entry} {all : List Row} {start : List ℕ} {left : List Row} {es : List Entry} {out : List ℕ} {at taken turned : ℕ} (g : Going n from all start left es out at taken turned) (e : left ≡ []) where
+    done : Going n from all start [] es out at taken turned
+    done = subst (λ x. Going n from all start x es out at taken turned) e g
 
-    pub comes_out : out ≡ entered day m s from all start
-    comes_out = let z : at ≡ at + 0 = omega arith in sym (take-append-drop at out) ∙ ap (λ i. take at out ++ drop i out) z ∙ done.wrote
-
-    pub counts_out : record { taken = taken; turned_away = at - taken } ≡ counted (outcomes day m s from all)
+    pub counts_out : record { taken = taken; turned_away = turned } ≡ counted (outcomes day m s from all)
     counts_out =
         let t : taken ≡ zeros (outcomes day m s from all) = omega (arith, done.count) in
-        let k : at ≡ length (outcomes day m s from all) = omega (arith, done.place, length_outcomes from all) in
-        λ i. record { taken = t i; turned_away = k i - t i }
-
-    pub entries_out : es ≡ after_rows day m s from all
-    entries_out = done.kept
+        let k : turned ≡ length (outcomes day m s from all) - zeros (outcomes day m s from all) = omega (arith, t, done.both, done.place, length_outcomes from all) in
+        λ i. record { taken = t i; turned_away = k i }

@@ -17,7 +17,8 @@ use Rattle.memberfile.specs.declared.header.Header.{Header}
 use Rattle.session.specs.Ledger.{Ledger, last_number, place_on}
 use Rattle.session.specs.Refusals.{Rule, first_holding, rule}
 use Rattle.session.specs.Rows.{after_rows, entered, outcomes, zeros}
-use Rattle.session.specs.declared.session.Sender.{Sender}
+use Rattle.session.specs.Senders.{SenderValue}
+use Rattle.session.specs.Parts.{stands_cleared}
 use Rattle.session.specs.declared.session.Session.{Session}
 use Rattle.session.specs.declared.session.Taken.{Taken}
 
@@ -60,7 +61,7 @@ verdict_by l m room (Err x) = Err x
 abbrev pub verdict : Ledger → Meaning → List ℕ → ℕ → Result FileValue Fault
 verdict l m bytes room = verdict_by l m room (judge bytes)
 
-abbrev pub sender_of : Ledger → Header → Sender
+abbrev pub sender_of : Ledger → Header → SenderValue
 sender_of l h = record { code = h.origin; place = place_on l.day.roll h.origin }
 
 -- the outcomes of a file's rows
@@ -104,5 +105,5 @@ written l m (Err x) out = out
 
 -- how the session stands behind the call: an accepted file ends the cleared state, and a refusal leaves the session as it was
 abbrev pub Stood : Result FileValue Fault → Session → Session → Type 0
-Stood (Ok f) old new = new.cleared ≡ false
+Stood (Ok f) old new = stands_cleared new ≡ false
 Stood (Err x) old new = new ≡ old

@@ -1,13 +1,14 @@
 -- The ledger of a session: what is known of it from the calls' arguments alone, but for the last clearing.
-use Rattle.std.specs.Prelude.{ℕ, List, [], replicate, slice_index}
+use Rattle.std.specs.Prelude.{ℕ, List, [], map, replicate, slice_index}
 use Rattle.std.specs.Option.{unwrap_or}
 use Rattle.terms.specs.Dockets.{Day, day_of}
 use Rattle.terms.specs.Rolls.{place_in}
 use Rattle.terms.specs.declared.file_kind.FileKind.{FileKind}
 use Rattle.terms.specs.declared.file_kind.FileKind.TheVariants.{Presentations, Returns}
 use Rattle.clearing.specs.declared.entry.Entry.{Entry}
-use Rattle.table.specs.Entries.{entries_of}
+use Rattle.table.specs.Entries.{capacity_of, entries_of}
 use Rattle.session.specs.declared.session.FileNumbers.{FileNumbers}
+use Rattle.session.specs.Parts.{docket_of, table_of}
 use Rattle.session.specs.declared.session.Session.{Session}
 
 pub record Ledger : Type 0 where
@@ -24,15 +25,29 @@ pub record Ledger : Type 0 where
 abbrev pub opened : Day → ℕ → Ledger
 opened day capacity = record { day = day; capacity = capacity; entries = []; presentations = replicate 64 0; returns = replicate 64 0 }
 
+-- a member's last accepted number of a kind
+abbrev pub number_of : FileKind → FileNumbers → ℕ
+number_of Presentations n = n.presentations
+number_of Returns n = n.returns
+
+-- a member's numbers with another of a kind
+abbrev pub numbered : FileKind → ℕ → FileNumbers → FileNumbers
+numbered Presentations number n = record { presentations = number; returns = n.returns }
+numbered Returns number n = record { presentations = n.presentations; returns = number }
+
+-- the last accepted numbers of a kind, by place on the roll
+abbrev pub numbers_in : FileKind → List FileNumbers → List ℕ
+numbers_in kind ns = map (number_of kind) ns
+
 -- the ledger that a session bears
 abbrev pub ledger_of : Session → Ledger
 ledger_of s =
     record {
-      day = day_of s.docket;
-      capacity = s.table.capacity;
-      entries = entries_of s.table;
-      presentations = s.numbers.presentations;
-      returns = s.numbers.returns;
+      day = day_of (docket_of s);
+      capacity = capacity_of (table_of s);
+      entries = entries_of (table_of s);
+      presentations = numbers_in Presentations s.numbers;
+      returns = numbers_in Returns s.numbers;
     }
 
 abbrev pub numbers_of : FileKind → Ledger → List ℕ
@@ -50,8 +65,3 @@ last_number l kind origin = slice_index (numbers_of kind l) (place_on l.day.roll
 -- the ledger with other entries
 abbrev pub with_entries : Ledger → List Entry → Ledger
 with_entries l es = record { day = l.day; capacity = l.capacity; entries = es; presentations = l.presentations; returns = l.returns }
-
--- the numbers of a kind that a session keeps
-abbrev pub numbers_in : FileKind → FileNumbers → List ℕ
-numbers_in Presentations n = n.presentations
-numbers_in Returns n = n.returns

@@ -1,3 +1,5 @@
+pub mod Parts
+pub mod Senders
 pub mod Ledger
 pub mod Refusals
 pub mod Rows

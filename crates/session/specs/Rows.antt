@@ -18,7 +18,7 @@ use Rattle.clearing.specs.declared.entry.Entry.{Entry}
 use Rattle.table.specs.Entries.{record_in, struck}
 use Rattle.session.specs.Ledger.{place_on}
 use Rattle.session.specs.Refusals.{Rule, first_holding, rule, unless}
-use Rattle.session.specs.declared.session.Sender.{Sender}
+use Rattle.session.specs.Senders.{SenderValue}
 
 -- a presentation
 
@@ -41,25 +41,25 @@ worth_in (Ok w) = w
 worth_in (Err d) = 0
 
 -- the other member is off the roll or the origin
-abbrev pub other_wrong : Day → Sender → ℕ → Bool
+abbrev pub other_wrong : Day → SenderValue → ℕ → Bool
 other_wrong day s other = not (is_some (place_in day.roll other)) || other == s.code
 
 -- the reference is 0, or used by this origin on a record taken in
-abbrev pub reference_used : Sender → List Entry → ℕ → Bool
+abbrev pub reference_used : SenderValue → List Entry → ℕ → Bool
 reference_used s es reference = reference == 0 || is_some (record_in es s.code reference)
 
-abbrev pub presentation_rules : Day → Meaning → Sender → List Entry → PresentationV → List Rule
+abbrev pub presentation_rules : Day → Meaning → SenderValue → List Entry → PresentationV → List Rule
 presentation_rules day m s es p =
     (rule OtherMember (other_wrong day s p.other) ∷
     rule RecordType (type_denied (admission day m p)) ∷
     rule NotAdmitted (limits_denied (admission day m p)) ∷
     rule ReferenceUsed (reference_used s es p.reference) ∷ [])
 
-abbrev pub presentation_refusal : Day → Meaning → Sender → List Entry → PresentationV → Option Refusal
+abbrev pub presentation_refusal : Day → Meaning → SenderValue → List Entry → PresentationV → Option Refusal
 presentation_refusal day m s es p = first_holding (presentation_rules day m s es p)
 
 -- the entry of a presentation that is taken: the sender or the other member pays, and the other party receives
-abbrev pub entry_for : Day → Meaning → Sender → PresentationV → Entry
+abbrev pub entry_for : Day → Meaning → SenderValue → PresentationV → Entry
 entry_for day m s p =
     record {
       record_type = p.record_type;
@@ -75,7 +75,7 @@ entry_for day m s p =
       returned = false;
     }
 
-abbrev pub presentation_taken : Day → Meaning → Sender → List Entry → PresentationV → Result Entry Refusal
+abbrev pub presentation_taken : Day → Meaning → SenderValue → List Entry → PresentationV → Result Entry Refusal
 presentation_taken day m s es p = unless (presentation_refusal day m s es p) (entry_for day m s p)
 
 -- a return
@@ -89,7 +89,7 @@ abbrev pub wanted : List Entry → ReturnV → Option ℕ
 wanted es r = record_in es r.originator r.reference
 
 -- there is such a record to this sender, and its instrument takes returns
-abbrev pub can_return : Sender → List Entry → Option ℕ → Bool
+abbrev pub can_return : SenderValue → List Entry → Option ℕ → Bool
 can_return s es o = is_some o && ((record_by es o).other == s.code && (record_by es o).returnable)
 
 abbrev pub same_sums : Entry → ReturnV → Bool
@@ -99,7 +99,7 @@ same_sums e r = e.amount == r.amount && e.commission == r.commission
 abbrev pub is_cause : ℕ → Bool
 is_cause c = nat_le 1 c && (nat_le c 20 && not (c == 12))
 
-abbrev pub return_refusal : Sender → List Entry → ReturnV → Option Refusal
+abbrev pub return_refusal : SenderValue → List Entry → ReturnV → Option Refusal
 return_refusal s es r =
     first_holding
     (rule NoSuchRecord (not (can_return s es (wanted es r))) ∷
@@ -108,7 +108,7 @@ return_refusal s es r =
     rule ReturnCause (not (is_cause r.cause)) ∷ [])
 
 -- the place of the record that is returned
-abbrev pub return_taken : Sender → List Entry → ReturnV → Result ℕ Refusal
+abbrev pub return_taken : SenderValue → List Entry → ReturnV → Result ℕ Refusal
 return_taken s es r = unless (return_refusal s es r) (unwrap_or (wanted es r) 0)
 
 -- a row, and the rows after one another
@@ -122,7 +122,7 @@ struck_in es (Ok i) = Ok (struck es i)
 struck_in es (Err c) = Err c
 
 -- the entries behind a row that is taken, or its code
-abbrev pub row_taken : Day → Meaning → Sender → List Entry → Row → Result (List Entry) Refusal
+abbrev pub row_taken : Day → Meaning → SenderValue → List Entry → Row → Result (List Entry) Refusal
 row_taken day m s es (Presentation p) = put_in es (presentation_taken day m s es p)
 row_taken day m s es (Return r) = struck_in es (return_taken s es r)
 
@@ -136,21 +136,21 @@ abbrev pub entries_by : List Entry → Result (List Entry) Refusal → List Entr
 entries_by es (Ok fs) = fs
 entries_by es (Err c) = es
 
-abbrev pub after_row : Day → Meaning → Sender → List Entry → Row → List Entry
+abbrev pub after_row : Day → Meaning → SenderValue → List Entry → Row → List Entry
 after_row day m s es r = entries_by es (row_taken day m s es r)
 
 -- the outcomes of rows: earlier ones count for later ones
-abbrev pub outcomes : Day → Meaning → Sender → List Entry → List Row → List ℕ
+abbrev pub outcomes : Day → Meaning → SenderValue → List Entry → List Row → List ℕ
 outcomes day m s es [] = []
 outcomes day m s es (r ∷ rs) = outcome_of (row_taken day m s es r) ∷ outcomes day m s (after_row day m s es r) rs
 
 -- the entries behind rows
-abbrev pub after_rows : Day → Meaning → Sender → List Entry → List Row → List Entry
+abbrev pub after_rows : Day → Meaning → SenderValue → List Entry → List Row → List Entry
 after_rows day m s es [] = es
 after_rows day m s es (r ∷ rs) = after_rows day m s (after_row day m s es r) rs
 
 -- the buffer with the outcomes at its front
-abbrev pub entered : Day → Meaning → Sender → List Entry → List Row → List ℕ → List ℕ
+abbrev pub entered : Day → Meaning → SenderValue → List Entry → List Row → List ℕ → List ℕ
 entered day m s es rs out = outcomes day m s es rs ++ drop (length rs) out
 
 abbrev pub zeros : List ℕ → ℕ

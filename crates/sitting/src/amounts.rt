@@ -2,6 +2,7 @@
 use console::misread::Misread;
 use console::words::number;
 use std::fmt;
+use std::str::FromStr;
 
 #[derive(Clone, Copy)]
 pub struct Money(pub u64);
@@ -12,38 +13,34 @@ pub struct Balance(pub i64);
 
 impl fmt::Display for Money {
     fn fmt<W: fmt::Write>(&self, f: &mut fmt::Formatter<W>) -> fmt::Result {
-        let whole = self.0 / 100;
-        let hundredths = self.0 % 100;
-        write!(f, "{whole}.{hundredths:02}")
+        write!(f, "{}.{:02}", self.0 / 100, self.0 % 100)
     }
 }
 
 impl fmt::Display for Balance {
     fn fmt<W: fmt::Write>(&self, f: &mut fmt::Formatter<W>) -> fmt::Result {
-        let amount = Money(self.0.unsigned_abs());
         if self.0 < 0 {
-            write!(f, "-{amount}")
-        } else {
-            write!(f, "{amount}")
+            f.write_str("-")?;
         }
+        write!(f, "{}", Money(self.0.unsigned_abs()))
     }
 }
 
-// The amount of a word: with a point and two decimals in soles or dollars, without one in hundredths.
-pub fn amount_of(word: &str) -> Result<u64, Misread> {
-    let Some((whole, hundredths)) = word.split_once('.') else {
-        return number::<u64>(word);
-    };
-    if hundredths.len() != 2 {
-        return Err(Misread::Number);
-    }
-    let whole = number::<u64>(whole)?;
-    let hundredths = number::<u8>(hundredths)?;
-    let Some(whole) = whole.checked_mul(100) else {
-        return Err(Misread::Number);
-    };
-    match whole.checked_add(u64::from(hundredths)) {
-        Some(amount) => Ok(amount),
-        None => Err(Misread::Number),
+// With a point and two decimals in soles or dollars, without one in hundredths.
+impl FromStr for Money {
+    type Err = Misread;
+
+    fn from_str(word: &str) -> Result<Money, Misread> {
+        let Some((whole, hundredths)) = word.split_once('.') else {
+            return Ok(Money(number(word)?));
+        };
+        if hundredths.len() != 2 {
+            return Err(Misread::Number);
+        }
+        let hundredths = u64::from(number::<u8>(hundredths)?);
+        let amount = number::<u64>(whole)?
+            .checked_mul(100)
+            .and_then(|amount| amount.checked_add(hundredths));
+        Ok(Money(amount.ok_or(Misread::Number)?))
     }
 }

@@ -1,10 +1,11 @@
 // A member file from a readable list of its records, a record to a line.
-use crate::reading::{header_in, presentation_in, return_in};
+use crate::reading::Listing;
 use crate::why::{Why, Wrong};
 use console::console::is_silent;
 use console::console::writing::header_of;
 use console::draft::Draft;
 use console::misread::Misread;
+use console::records::{header_in, presentation_in, return_in};
 use console::words::{number, words_of};
 use memberfile::check::FILE_MOST_BYTES;
 use std::alloc::Global;
@@ -12,17 +13,15 @@ use wire::row::Row;
 
 // The writer's answer to the newest line.
 fn checked(heap: Global, draft: &Draft) -> Result<(), Why> {
-    match draft.replay(heap)?.newest {
-        Some(refusal) => Err(Why::Refused(refusal)),
-        None => Ok(()),
-    }
+    Ok(draft.replay(heap)?.newest?)
 }
 
 fn begin(heap: Global, draft: &mut Option<Draft>, words: &[&str]) -> Result<(), Why> {
     if draft.is_some() {
         return Err(Why::Misread(Misread::FileOpen));
     }
-    let begun = Draft::new(heap, FILE_MOST_BYTES, header_of(header_in(words)?));
+    let header = header_of(header_in::<Listing>(words)?);
+    let begun = Draft::new(heap, FILE_MOST_BYTES, header);
     let answer = checked(heap, &begun);
     *draft = Some(begun);
     answer
@@ -32,10 +31,8 @@ fn begin_batch(heap: Global, draft: &mut Option<Draft>, words: &[&str]) -> Resul
     let [batch_number] = words else {
         return Err(Why::Misread(Misread::Usage("batch NUMBER")));
     };
-    let batch_number = number::<u16>(batch_number)?;
-    let Some(draft) = draft else {
-        return Err(Why::NoFileLine);
-    };
+    let batch_number = number(batch_number)?;
+    let draft = draft.as_mut().ok_or(Why::NoFileLine)?;
     if draft.in_batch() {
         draft.close_batch()?;
     }
@@ -44,9 +41,7 @@ fn begin_batch(heap: Global, draft: &mut Option<Draft>, words: &[&str]) -> Resul
 }
 
 fn put(heap: Global, draft: &mut Option<Draft>, row: Row) -> Result<(), Why> {
-    let Some(draft) = draft else {
-        return Err(Why::NoFileLine);
-    };
+    let draft = draft.as_mut().ok_or(Why::NoFileLine)?;
     draft.put(row)?;
     checked(heap, draft)
 }
@@ -62,17 +57,15 @@ fn enter(heap: Global, draft: &mut Option<Draft>, line: &str) -> Result<(), Why>
     match *command {
         "file" => begin(heap, draft, rest),
         "batch" => begin_batch(heap, draft, rest),
-        "present" => put(heap, draft, presentation_in(rest)?),
-        "return" => put(heap, draft, return_in(rest)?),
+        "present" => put(heap, draft, presentation_in::<Listing>(rest)?),
+        "return" => put(heap, draft, return_in::<Listing>(rest)?),
         _ => Err(Why::Misread(Misread::Command)),
     }
 }
 
 // Closes the last batch, and gives the bytes of the file.
 fn finish(heap: Global, draft: Option<Draft>) -> Result<Vec<u8>, Why> {
-    let Some(mut draft) = draft else {
-        return Err(Why::NoFileLine);
-    };
+    let mut draft = draft.ok_or(Why::NoFileLine)?;
     if draft.in_batch() {
         draft.close_batch()?;
     }
@@ -86,14 +79,9 @@ fn finish(heap: Global, draft: Option<Draft>) -> Result<Vec<u8>, Why> {
 pub fn file_of(heap: Global, text: &str) -> Result<Vec<u8>, Wrong> {
     let mut draft = None;
     let mut last = 0;
-    for (at, line) in text.lines().enumerate() {
-        last = at.saturating_add(1);
-        if let Err(why) = enter(heap, &mut draft, line) {
-            return Err(Wrong { line: last, why });
-        }
+    for (line, words) in (1..usize::MAX).zip(text.lines()) {
+        enter(heap, &mut draft, words).map_err(|why| Wrong { line, why })?;
+        last = line;
     }
-    match finish(heap, draft) {
-        Ok(bytes) => Ok(bytes),
-        Err(why) => Err(Wrong { line: last, why }),
-    }
+    finish(heap, draft).map_err(|why| Wrong { line: last, why })
 }

@@ -2,9 +2,7 @@
 use crate::amounts::{Balance, Money};
 use session::session::mark::Mark;
 use session::session::{Session, Taken};
-use std::io;
-use terms::currency::Currency;
-use terms::cycle::Cycle;
+use std::{fmt, io};
 use terms::docket::Docket;
 use terms::fault::Fault;
 use terms::refusal::Refusal;
@@ -20,45 +18,45 @@ pub struct Listed {
 
 pub fn show_opening(rt: &HostRuntime, docket: &Docket, places: usize) -> io::Result<()> {
     let date = docket.date();
-    let cycle = match docket.cycle() {
-        Cycle::Morning => "morning",
-        Cycle::Intermediate => "intermediate",
-        Cycle::Afternoon => "afternoon",
-    };
-    let currency = match docket.currency() {
-        Currency::Soles => "soles",
-        Currency::Dollars => "dollars",
-    };
+    let cycle = docket.cycle();
+    let currency = docket.currency();
     let members = docket.roll().len();
     println!(rt; "session of {date}, {cycle}, in {currency}: {members} members, {places} places")
 }
 
 pub fn show_taken(rt: &HostRuntime, name: &str, rows: Taken) -> io::Result<()> {
-    let taken = rows.taken;
-    let away = rows.turned_away;
-    println!(rt; "{name}: accepted, rows taken {taken}, turned away {away}")
+    let Taken { taken, turned_away } = rows;
+    println!(rt; "{name}: accepted, rows taken {taken}, turned away {turned_away}")
 }
 
 pub fn show_refused(rt: &HostRuntime, name: &str, fault: Fault) -> io::Result<()> {
-    let code = fault.cause.code();
-    let layer = fault.layer.number();
-    let place = fault.place;
-    let cause = fault.cause;
+    let Fault {
+        cause,
+        place,
+        layer,
+    } = fault;
+    let code = u8::from(cause);
+    let layer = u8::from(layer);
     println!(rt; "{name}: refused with {code} in layer {layer} at place {place}: {cause}")
 }
 
+// Why rows are turned away, but for the cause of a return.
+const OF_ROWS: [Refusal; 7] = [
+    Refusal::OtherMember,
+    Refusal::RecordType,
+    Refusal::NotAdmitted,
+    Refusal::ReferenceUsed,
+    Refusal::NoSuchRecord,
+    Refusal::AlreadyReturned,
+    Refusal::ReturnDiffers,
+];
+
 // Why a row with that code was turned away.
-fn cause_of(code: u8) -> &'static str {
-    match code {
-        40 => Refusal::OtherMember.words(),
-        41 => Refusal::RecordType.words(),
-        42 => Refusal::NotAdmitted.words(),
-        43 => Refusal::ReferenceUsed.words(),
-        44 => Refusal::NoSuchRecord.words(),
-        45 => Refusal::AlreadyReturned.words(),
-        46 => Refusal::ReturnDiffers.words(),
-        _ => Refusal::ReturnCause.words(),
-    }
+fn cause_of(code: u8) -> Refusal {
+    OF_ROWS
+        .into_iter()
+        .find(|cause| u8::from(*cause) == code)
+        .unwrap_or(Refusal::ReturnCause)
 }
 
 pub fn show_turned_away(rt: &HostRuntime, at: usize, row: Row, code: u8) -> io::Result<()> {
@@ -73,12 +71,17 @@ pub fn show_turned_away(rt: &HostRuntime, at: usize, row: Row, code: u8) -> io::
     )
 }
 
-fn show_withdrawn(rt: &HostRuntime, number: usize, record: Listed) -> io::Result<()> {
+fn show_withdrawn(rt: &HostRuntime, number: usize, record: &Listed) -> io::Result<()> {
     let origin = record.origin;
-    let other = record.presentation.other;
-    let reference = record.presentation.reference;
-    let amount = Money(u64::from(record.presentation.amount));
-    let commission = Money(u64::from(record.presentation.commission));
+    let Presentation {
+        other,
+        reference,
+        amount,
+        commission,
+        ..
+    } = record.presentation;
+    let amount = Money(u64::from(amount));
+    let commission = Money(u64::from(commission));
     println!(rt;
         "  withdrawn of member {origin}: number {number}, to member {other}, reference {reference}, {amount} and commission {commission}"
     )
@@ -91,21 +94,21 @@ pub fn show_all_withdrawn(
     records: &[Listed],
 ) -> io::Result<()> {
     for code in session.docket().roll() {
-        for (at, record) in records.iter().enumerate() {
-            let number = at.saturating_add(1);
-            let withdrawn = match session.mark(number) {
-                Ok(mark) => mark == Mark::Withdrawn,
-                Err(_) => false,
-            };
-            if withdrawn && record.origin == *code {
-                show_withdrawn(rt, number, *record)?;
+        for (number, record) in (1..usize::MAX).zip(records) {
+            if record.origin == *code && session.mark(number) == Ok(Mark::Withdrawn) {
+                show_withdrawn(rt, number, record)?;
             }
         }
     }
     Ok(())
 }
 
-fn show_line(rt: &HostRuntime, name: &str, position: i64, cover: u64) -> io::Result<()> {
+fn show_line<N: fmt::Display + Drop>(
+    rt: &HostRuntime,
+    name: N,
+    position: i64,
+    cover: u64,
+) -> io::Result<()> {
     let position = format!(in rt.alloc(); "{}", Balance(position))?;
     let cover = format!(in rt.alloc(); "{}", Money(cover))?;
     println!(rt; "  {name:>6}  {position:>18}  {cover:>18}")
@@ -118,8 +121,7 @@ pub fn show_positions(rt: &HostRuntime, session: &Session) -> io::Result<()> {
     let mut covers = 0u64;
     for code in session.docket().roll() {
         if let (Ok(position), Ok(cover)) = (session.position(*code), session.cover(*code)) {
-            let name = format!(in rt.alloc(); "{code}")?;
-            show_line(rt, name.as_str(), position, cover)?;
+            show_line(rt, *code, position, cover)?;
             positions = positions.wrapping_add(position);
             covers = covers.wrapping_add(cover);
         }

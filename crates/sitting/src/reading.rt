@@ -1,86 +1,38 @@
-// The words for kinds, cycles, currencies and records, in lists and plans. A number may stand for a word, as the files have it.
-use crate::amounts::amount_of;
+// How the lines of lists and plans are read: a kind, a currency and a cycle by name or by number, and amounts with a point or without.
+use crate::amounts::Money;
 use console::misread::Misread;
+use console::names::{CURRENCIES, CYCLES, FILE_KINDS, by_name};
+use console::records::Reading;
 use console::words::number;
-use wire::row::Row;
-use wire::values::{Presentation, RawHeader, Return};
 
-fn kind_of(word: &str) -> Result<u8, Misread> {
-    match word {
-        "presentations" => Ok(1),
-        "returns" => Ok(2),
-        _ => number::<u8>(word),
+// The number that a name or a number says.
+fn code_of<T: Copy + Into<u8>>(names: &[(&str, T)], word: &str) -> Result<u8, Misread> {
+    by_name(names, word).map_or_else(|| number(word), |value| Ok(value.into()))
+}
+
+// The lines of a list.
+pub struct Listing;
+
+impl Reading for Listing {
+    const HEADER: &'static str = "file KIND CURRENCY CYCLE ORIGIN DATE NUMBER";
+
+    const PRESENTATION: &'static str = "present TYPE OTHER REFERENCE AMOUNT COMMISSION";
+
+    const RETURN: &'static str = "return ORIGINATOR REFERENCE AMOUNT COMMISSION CAUSE";
+
+    fn kind(word: &str) -> Result<u8, Misread> {
+        code_of(&FILE_KINDS, word)
     }
-}
 
-pub fn currency_of(word: &str) -> Result<u8, Misread> {
-    match word {
-        "soles" => Ok(1),
-        "dollars" => Ok(2),
-        _ => number::<u8>(word),
+    fn currency(word: &str) -> Result<u8, Misread> {
+        code_of(&CURRENCIES, word)
     }
-}
 
-pub fn cycle_of(word: &str) -> Result<u8, Misread> {
-    match word {
-        "morning" => Ok(1),
-        "intermediate" => Ok(2),
-        "afternoon" => Ok(3),
-        _ => number::<u8>(word),
+    fn cycle(word: &str) -> Result<u8, Misread> {
+        code_of(&CYCLES, word)
     }
-}
 
-// An amount that fits the field of a record.
-fn field_amount(word: &str) -> Result<u32, Misread> {
-    match u32::try_from(amount_of(word)?) {
-        Ok(amount) => Ok(amount),
-        Err(_) => Err(Misread::Number),
+    fn amount(word: &str) -> Result<u64, Misread> {
+        Ok(number::<Money>(word)?.0)
     }
-}
-
-fn field_commission(word: &str) -> Result<u16, Misread> {
-    match u16::try_from(amount_of(word)?) {
-        Ok(commission) => Ok(commission),
-        Err(_) => Err(Misread::Number),
-    }
-}
-
-pub fn header_in(words: &[&str]) -> Result<RawHeader, Misread> {
-    let [kind, currency, cycle, origin, date, file_number] = words else {
-        return Err(Misread::Usage("file KIND CURRENCY CYCLE ORIGIN DATE NUMBER"));
-    };
-    Ok(RawHeader {
-        kind: kind_of(kind)?,
-        currency: currency_of(currency)?,
-        cycle: cycle_of(cycle)?,
-        origin: number::<u16>(origin)?,
-        date: number::<u32>(date)?,
-        number: number::<u8>(file_number)?,
-    })
-}
-
-pub fn presentation_in(words: &[&str]) -> Result<Row, Misread> {
-    let [record_type, other, reference, amount, commission] = words else {
-        return Err(Misread::Usage("present TYPE OTHER REFERENCE AMOUNT COMMISSION"));
-    };
-    Ok(Row::Presentation(Presentation {
-        record_type: number::<u8>(record_type)?,
-        other: number::<u16>(other)?,
-        reference: number::<u32>(reference)?,
-        amount: field_amount(amount)?,
-        commission: field_commission(commission)?,
-    }))
-}
-
-pub fn return_in(words: &[&str]) -> Result<Row, Misread> {
-    let [originator, reference, amount, commission, cause] = words else {
-        return Err(Misread::Usage("return ORIGINATOR REFERENCE AMOUNT COMMISSION CAUSE"));
-    };
-    Ok(Row::Return(Return {
-        originator: number::<u16>(originator)?,
-        reference: number::<u32>(reference)?,
-        amount: field_amount(amount)?,
-        commission: field_commission(commission)?,
-        cause: number::<u8>(cause)?,
-    }))
 }

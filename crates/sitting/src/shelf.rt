@@ -15,17 +15,11 @@ impl Shelf {
     // The bytes of the file of that name.
     pub fn file(self, rt: &HostRuntime, name: &str) -> Result<Vec<u8>, Why> {
         match self {
-            Shelf::Disk => match fs::read(rt, name) {
-                Ok(bytes) => Ok(bytes),
-                Err(_) => Err(Why::Misread(Misread::Path)),
-            },
-            Shelf::Demo => match list_of(name) {
-                Some(list) => match file_of(rt.alloc(), list) {
-                    Ok(bytes) => Ok(bytes),
-                    Err(wrong) => Err(wrong.why),
-                },
-                None => Err(Why::Misread(Misread::Path)),
-            },
+            Shelf::Disk => fs::read(rt, name).map_err(|_| Why::Misread(Misread::Path)),
+            Shelf::Demo => {
+                let list = list_of(name).ok_or(Misread::Path)?;
+                file_of(rt.alloc(), list).map_err(|wrong| wrong.why)
+            }
         }
     }
 }

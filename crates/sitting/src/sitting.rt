@@ -1,15 +1,15 @@
 // A sitting of the clearing room: a plan carried out line by line, and what it says put on paper.
-use crate::amounts::amount_of;
 use crate::papers::{
     Listed, show_all_withdrawn, show_opening, show_positions, show_refused, show_taken,
     show_turned_away,
 };
-use crate::reading::{currency_of, cycle_of};
+use crate::reading::Listing;
 use crate::shelf::Shelf;
 use crate::why::{Why, Wrong};
 use console::console::{Console, is_silent};
 use console::misread::Misread;
-use console::names::{instrument_of, ranking_of, source_of};
+use console::names::{INSTRUMENTS, RANKINGS, SOURCES, by_name};
+use console::records::Reading;
 use console::words::{number, numbers, words_of};
 use desk::calls;
 use memberfile::check::check;
@@ -44,11 +44,8 @@ impl Sitting {
 
     // Carries out the lines of a plan, up to the first that is wrong.
     pub fn carry_out(&mut self, rt: &HostRuntime, plan: &str) -> Result<(), Wrong> {
-        for (at, line) in plan.lines().enumerate() {
-            if let Err(why) = self.obey(rt, line) {
-                let line = at.saturating_add(1);
-                return Err(Wrong { line, why });
-            }
+        for (line, words) in (1..usize::MAX).zip(plan.lines()) {
+            self.obey(rt, words).map_err(|why| Wrong { line, why })?;
         }
         Ok(())
     }
@@ -76,66 +73,59 @@ impl Sitting {
         let [date, cycle, currency, codes @ ..] = words else {
             return Err(Why::Misread(Misread::Usage("docket DATE CYCLE CURRENCY CODE...")));
         };
-        let date = number::<u32>(date)?;
-        let cycle = cycle_of(cycle)?;
-        let currency = currency_of(currency)?;
+        let date = number(date)?;
+        let cycle = Listing::cycle(cycle)?;
+        let currency = Listing::currency(currency)?;
         let roll = numbers(heap, codes)?;
-        self.console.set_docket(date, cycle, currency, &roll)?;
-        Ok(())
+        Ok(self.console.set_docket(date, cycle, currency, &roll)?)
     }
 
     fn open(&mut self, rt: &HostRuntime, words: &[&str]) -> Result<(), Why> {
         let [places] = words else {
             return Err(Why::Misread(Misread::Usage("open PLACES")));
         };
-        let places = number::<usize>(places)?;
+        let places = number(places)?;
         self.console.open(rt.alloc(), places)?;
         self.records.clear();
-        show_opening(rt, self.session().docket(), places)?;
-        Ok(())
+        Ok(show_opening(rt, self.session().docket(), places)?)
     }
 
     fn report(&mut self, words: &[&str]) -> Result<(), Why> {
         let [code, balance] = words else {
             return Err(Why::Misread(Misread::Usage("report CODE BALANCE")));
         };
-        let code = number::<u16>(code)?;
-        let balance = amount_of(balance)?;
-        self.console.set_balance(code, balance)?;
-        Ok(())
+        let code = number(code)?;
+        let balance = Listing::amount(balance)?;
+        Ok(self.console.set_balance(code, balance)?)
     }
 
     fn pledge(&mut self, words: &[&str]) -> Result<(), Why> {
         let [code, balance, pledge, percent] = words else {
             return Err(Why::Misread(Misread::Usage("pledge CODE BALANCE PLEDGE PERCENT")));
         };
-        let code = number::<u16>(code)?;
-        let balance = amount_of(balance)?;
-        let pledge = amount_of(pledge)?;
-        let percent = number::<u8>(percent)?;
-        self.console.set_pledge(code, balance, pledge, percent)?;
-        Ok(())
+        let code = number(code)?;
+        let balance = Listing::amount(balance)?;
+        let pledge = Listing::amount(pledge)?;
+        let percent = number(percent)?;
+        Ok(self.console.set_pledge(code, balance, pledge, percent)?)
     }
 
     fn take_file(&mut self, rt: &HostRuntime, words: &[&str]) -> Result<(), Why> {
         let [instrument, name] = words else {
             return Err(Why::Misread(Misread::Usage("file INSTRUMENT PATH")));
         };
-        let instrument = instrument_of(instrument)?;
+        let instrument = by_name(&INSTRUMENTS, instrument).ok_or(Misread::Instrument)?;
         let bytes = self.shelf.file(rt, name)?;
         let mut outcomes = vec![in rt.alloc(); 0u8; OUTCOMES]?;
         match self
             .console
             .take_in(instrument, &bytes, OUTCOMES, &mut outcomes)
         {
-            calls::Answer::Taken(rows) => {
+            calls::Answer::Intake(Ok(rows)) => {
                 show_taken(rt, name, rows)?;
                 self.list_rows(rt, &bytes, &outcomes)
             }
-            calls::Answer::Refused(fault) => {
-                show_refused(rt, name, fault)?;
-                Ok(())
-            }
+            calls::Answer::Intake(Err(fault)) => Ok(show_refused(rt, name, fault)?),
             calls::Answer::Withdrawn(_) => Ok(()),
         }
     }
@@ -146,16 +136,14 @@ impl Sitting {
             return Ok(());
         };
         let origin = file.header.origin;
-        for ((row, outcome), at) in Rows::new(bytes).zip(outcomes.iter()).zip(1usize..OUTCOMES) {
-            if *outcome != 0 {
-                show_turned_away(rt, at, row, *outcome)?;
-                continue;
-            }
-            if let Row::Presentation(presentation) = row {
-                self.records.push(Listed {
+        for (at, (row, code)) in (1..OUTCOMES).zip(Rows::new(bytes).zip(outcomes)) {
+            match row {
+                _ if *code != 0 => show_turned_away(rt, at, row, *code)?,
+                Row::Presentation(presentation) => self.records.push(Listed {
                     origin,
                     presentation,
-                })?;
+                })?,
+                Row::Return(_) => {}
             }
         }
         Ok(())
@@ -165,13 +153,12 @@ impl Sitting {
         let [rule, source] = words else {
             return Err(Why::Misread(Misread::Usage("clear RULE SOURCE")));
         };
-        let ranking = ranking_of(rule)?;
-        let kind = source_of(source)?;
+        let ranking = by_name(&RANKINGS, rule).ok_or(Misread::Rule)?;
+        let kind = by_name(&SOURCES, source).ok_or(Misread::Source)?;
         if let calls::Answer::Withdrawn(count) = self.console.settle(ranking, kind) {
             println!(rt; "clearing by {rule} and {source}: records withdrawn {count}")?;
         }
         show_all_withdrawn(rt, self.session(), &self.records)?;
-        show_positions(rt, self.session())?;
-        Ok(())
+        Ok(show_positions(rt, self.session())?)
     }
 }

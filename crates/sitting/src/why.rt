@@ -3,8 +3,9 @@ use console::misread::Misread;
 use std::alloc::{AllocError, AllocFailed};
 use std::{fmt, io};
 use terms::refusal::Refusal;
+use thiserror::Error;
 
-#[derive(Clone, Copy)]
+#[derive(Clone, Copy, Debug)]
 pub enum Why {
     Misread(Misread),
     Refused(Refusal),
@@ -15,34 +16,27 @@ pub enum Why {
 }
 
 // The number of a line, from 1, and what is wrong with it.
-#[derive(Clone, Copy)]
+#[derive(Clone, Copy, Debug, Error)]
+#[error("line {line}: {why}")]
 pub struct Wrong {
     pub line: usize,
     pub why: Why,
 }
 
+// By hand, since a message that is derived cannot show a refusal beside its number.
 impl fmt::Display for Why {
     fn fmt<W: fmt::Write>(&self, f: &mut fmt::Formatter<W>) -> fmt::Result {
         match self {
             Why::Misread(misread) => write!(f, "{misread}"),
             Why::Refused(refusal) => {
-                let code = refusal.code();
+                let code = u8::from(*refusal);
                 write!(f, "refused {code} ({refusal})")
             }
-            Why::NoFileLine => write!(
-                f,
-                "a line file KIND CURRENCY CYCLE ORIGIN DATE NUMBER is wanted"
+            Why::NoFileLine => f.write_str(
+                "a line file KIND CURRENCY CYCLE ORIGIN DATE NUMBER is wanted",
             ),
-            Why::Output => write!(f, "it cannot be printed"),
+            Why::Output => f.write_str("it cannot be printed"),
         }
-    }
-}
-
-impl fmt::Display for Wrong {
-    fn fmt<W: fmt::Write>(&self, f: &mut fmt::Formatter<W>) -> fmt::Result {
-        let line = self.line;
-        let why = self.why;
-        write!(f, "line {line}: {why}")
     }
 }
 
@@ -59,14 +53,14 @@ impl From<Refusal> for Why {
 }
 
 impl From<AllocError> for Why {
-    fn from(_error: AllocError) -> Why {
-        Why::Misread(Misread::Memory)
+    fn from(error: AllocError) -> Why {
+        Why::Misread(error.into())
     }
 }
 
 impl<T: Drop> From<AllocFailed<T>> for Why {
-    fn from(_error: AllocFailed<T>) -> Why {
-        Why::Misread(Misread::Memory)
+    fn from(error: AllocFailed<T>) -> Why {
+        Why::Misread(error.into())
     }
 }
 

@@ -1,5 +1,5 @@
 -- The buckets that records fall into, and how an index chains the entries of a bucket.
-use Rattle.std.specs.Prelude.{◌≡◌, ℕ, zero, suc, ◌+◌, ◌*◌, ◌/◌, ◌%◌, ◌<◌, cond, List, ◌==◌, slice_index}
+use Rattle.std.specs.Prelude.{◌≡◌, ℕ, zero, suc, ◌+◌, ◌*◌, ◌/◌, ◌%◌, ◌<◌, cond, List, Option, Some, None, ◌==◌, slice_index}
 use Rattle.clearing.specs.Choices.{entry_at}
 use Rattle.clearing.specs.declared.entry.Entry.{Entry}
 
@@ -10,6 +10,11 @@ bucket_of origin reference = (reference * 1640531527 + origin * 1540483477) / 10
 -- the bucket of the entry at a place
 abbrev pub bucket_at : List Entry → ℕ → ℕ
 bucket_at es i = bucket_of (entry_at es i).origin (entry_at es i).reference
+
+-- how an index names the entry at a place, or none
+abbrev pub name_of : Option ℕ → ℕ
+name_of None = 0
+name_of (Some i) = suc i
 
 -- 1 + the last of the first n places that is in a bucket, where `at` says the bucket of each place; 0 if none is
 abbrev pub last_below : (ℕ → ℕ) → ℕ → ℕ → ℕ

@@ -7,6 +7,13 @@ use Rattle.clearing.specs.declared.entry.Entry.{Entry}
 use Rattle.clearing.specs.declared.place.Place.{Place}
 use Rattle.table.specs.declared.table.Table.{Table}
 
+-- how many places are taken, and how many can be
+abbrev pub held_of : Table → ℕ
+held_of t = t.held
+
+abbrev pub capacity_of : Table → ℕ
+capacity_of t = t.capacity
+
 -- the places that are taken
 abbrev pub held_places : Table → List Place
 held_places t = take t.held (vec_items t.places)

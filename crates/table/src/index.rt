@@ -1,6 +1,6 @@
 // The index of the table: the entries of a bucket, from the last taken in to the first.
 ghost use Rattle.std.specs.Prelude.{◌≡◌, ℕ, ◌+◌, ◌<◌, slice_index, slice_set};
-ghost use Rattle.table.specs.Buckets.{bucket_of};
+ghost use Rattle.table.specs.Buckets.{bucket_of, name_of};
 
 use clearing::place::CAPACITY;
 
@@ -15,13 +15,14 @@ const ORIGIN_FACTOR: u64 = 1_540_483_477;
 // The low bits of that sum hang on the low bits of its parts alone, so they are left out.
 const LOW_BITS: u64 = 1_048_576;
 
-// The entries of each bucket, chained. An entry is named by 1 + its place, and 0 names none.
+// The entries of each bucket, chained. An entry is named by 1 + its place, and 0 names none: half the memory of an `Option`. Chains of
+// places in two arrays of a fixed length, since taking in allocates nothing.
 #[derive(Drop)]
 pub(crate) struct Index {
     // By bucket: the last entry taken in.
-    pub(crate) heads: [u16; BUCKETS],
+    heads: [u16; BUCKETS],
     // By place: the entry of the same bucket taken in before it.
-    pub(crate) links: [u16; CAPACITY],
+    links: [u16; CAPACITY],
 }
 
 // The bucket of a record. References in a row, round ones, and the same ones of many origins spread over all buckets.
@@ -53,5 +54,21 @@ impl Index {
     {
         self.links[place] = self.heads[bucket];
         self.heads[bucket] = (place + 1) as u16;
+    }
+
+    // The place of the last entry of a bucket.
+    pub(crate) fn last_in(&self, bucket: usize) -> Option<usize>
+        requires { bucket < 4096 }
+        ensures { name_of result ≡ slice_index self.now.heads bucket }
+    {
+        usize::from(self.heads[bucket]).checked_sub(1)
+    }
+
+    // The place of the entry of the same bucket that was taken in before the one at a place.
+    pub(crate) fn previous(&self, place: usize) -> Option<usize>
+        requires { place < 4096 }
+        ensures { name_of result ≡ slice_index self.now.links place }
+    {
+        usize::from(self.links[place]).checked_sub(1)
     }
 }

@@ -11,6 +11,7 @@ pub mod result;
 
 #[derive(Drop)]
 pub struct Table {
+    // All made by the caller, since taking in allocates nothing: the first `held` are taken.
     places: Vec<Place>,
     held: usize,
     capacity: usize,

@@ -1,5 +1,6 @@
 -- The first place at which something holds, element by element.
-use Rattle.std.proofs.Common.{◌≡◌, ℕ, zero, suc, ◌+◌, ◌<◌, ◌≤◌, Bool, true, false, cond, List, [], ◌∷◌, length, get_or, drop, Some, None, Option, sym, refl, ap, ◌∙◌, add-one, arith, drop_of_length-le, drop-cons}
+use Rattle.std.proofs.Common.{◌≡◌, ℕ, zero, suc, ◌+◌, ◌<◌, ◌≤◌, Bool, true, false, not, cond, ltb, List, [], ◌∷◌, length, get_or, drop, Some, None, Option, sym, refl, ap, ◌∙◌, add-one, arith, drop_of_length-le, drop-cons}
+use Rattle.std.specs.List.{position_or_len}
 use Rattle.terms.specs.Rolls.{first_place, one_on}
 
 -- a place behind n others
@@ -52,3 +53,12 @@ module _ {A : Type 0} (P : A → Bool) where
   place_first i [] d h e not = absurd (omega arith)
   place_first zero (x ∷ xs) d h e not = ap (λ b. cond b (Some 0) (one_on (first_place P xs))) e
   place_first (suc i) (x ∷ xs) d h e not = ap (λ b. cond b (Some 0) (one_on (first_place P xs))) (not 0 (omega arith)) ∙ ap one_on (place_first i xs d (omega arith) e (λ j l. not (suc j) (omega arith)))
+
+  first_by : (b : Bool) (x : A) (xs : List A) → first_place P xs ≡ cond (ltb (position_or_len P xs) (length xs)) (Some (position_or_len P xs)) None → cond b (Some 0) (one_on (first_place P xs)) ≡ cond (ltb (cond (not b) (1 + position_or_len P xs) 0) (suc (length xs))) (Some (cond (not b) (1 + position_or_len P xs) 0)) None
+  first_by true x xs e = grind arith
+  first_by false x xs e = grind (arith, e)
+
+  -- it is what the library's search answers
+  pub first_is_position : (xs : List A) → first_place P xs ≡ cond (ltb (position_or_len P xs) (length xs)) (Some (position_or_len P xs)) None
+  first_is_position [] = refl
+  first_is_position (x ∷ xs) = first_by (P x) x xs (first_is_position xs)

@@ -1,30 +1,7 @@
 -- Rolls, code by code.
-use Rattle.std.proofs.Common.{◌≡◌, ℕ, zero, suc, ◌+◌, ◌<◌, ◌≤◌, Bool, true, false, ◌&&◌, ltb, leb, List, [], ◌∷◌, length, get_or, take, drop, sym, refl, ap, ◌∙◌, subst, add-one, arith, drop-cons, get_or-take, ltb-true, le-ltb, lt-ltb, le-leb, leb-true}
-use borrow.Author.Tests.{lt-leb}
+use Rattle.std.proofs.Common.{◌≡◌, ℕ, zero, suc, ◌+◌, ◌<◌, ◌≤◌, true, ◌&&◌, ltb, leb, List, [], ◌∷◌, length, get_or, take, sym, ap, ◌∙◌, subst, add-one, arith, get_or-take, ltb-true, leb-true}
+use Rattle.std.proofs.lemmas.Bool.{and_parts}
 use Rattle.terms.specs.Rolls.{is_roll, rises_from}
-
-rises_cons : (n c : ℕ) (cs : List ℕ) → n < c → c ≤ 999 → rises_from n (c ∷ cs) ≡ rises_from c cs
-rises_cons n c cs a b = λ i. lt-ltb n c a i && (le-leb c 999 b i && rises_from c cs)
-
-low_cons : (n c : ℕ) (cs : List ℕ) → c ≤ n → rises_from n (c ∷ cs) ≡ false
-low_cons n c cs a = ap (λ b. b && (leb c 999 && rises_from c cs)) (le-ltb n c a)
-
-high_cons : (n c : ℕ) (cs : List ℕ) → n < c → 999 < c → rises_from n (c ∷ cs) ≡ false
-high_cons n c cs a b = λ i. lt-ltb n c a i && (lt-leb c 999 b i && rises_from c cs)
-
--- one code more that rises
-pub rises_on : (n i : ℕ) (cs : List ℕ) → i < length cs → n < get_or cs i 0 → get_or cs i 0 ≤ 999 → rises_from n (drop i cs) ≡ rises_from (get_or cs i 0) (drop (i + 1) cs)
-rises_on n i cs h a b = ap (rises_from n) (drop-cons cs i 0 h) ∙ rises_cons n (get_or cs i 0) (drop (suc i) cs) a b ∙ ap (λ k. rises_from (get_or cs i 0) (drop k cs)) (sym (add-one i))
-
-pub rises_low : (n i : ℕ) (cs : List ℕ) → i < length cs → get_or cs i 0 ≤ n → rises_from n (drop i cs) ≡ false
-rises_low n i cs h a = ap (rises_from n) (drop-cons cs i 0 h) ∙ low_cons n (get_or cs i 0) (drop (suc i) cs) a
-
-pub rises_high : (n i : ℕ) (cs : List ℕ) → i < length cs → n < get_or cs i 0 → 999 < get_or cs i 0 → rises_from n (drop i cs) ≡ false
-rises_high n i cs h a b = ap (rises_from n) (drop-cons cs i 0 h) ∙ high_cons n (get_or cs i 0) (drop (suc i) cs) a b
-
-and_parts : (a b : Bool) → (a && b) ≡ true → (a ≡ true) × (b ≡ true)
-and_parts true b e = (refl, e)
-and_parts false b e = absurd (let z : ◌≡◌ {A = ℕ} 0 1 = cc in omega arith)
 
 rises_rest : (n c : ℕ) (cs : List ℕ) → rises_from n (c ∷ cs) ≡ true → (n < c) × (c ≤ 999) × (rises_from c cs ≡ true)
 rises_rest n c cs e =

@@ -3,3 +3,4 @@ pub mod Dates
 pub mod Codes
 pub mod Rolls
 pub mod Dockets
+pub mod Unknown

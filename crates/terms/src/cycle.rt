@@ -1,35 +1,49 @@
 // The cycle of the day in which a session runs.
 ghost use Rattle.terms.specs.Numbers.{cycle_number, cycle_of};
+ghost use Rattle.terms.specs.Unknown.{named};
 ghost use Rattle.std.specs.Prelude.{◌≡◌};
+
+use crate::unknown::UnknownNumber;
+use std::fmt;
 
 #[derive(Clone, Copy, Debug, PartialEq, Eq)]
 pub enum Cycle {
-    Morning,
-    Intermediate,
-    Afternoon,
+    Morning = 1,
+    Intermediate = 2,
+    Afternoon = 3,
 }
 
-impl Cycle {
-    // The number that files and results carry for it.
-    pub fn number(self) -> u8
-        ensures { result ≡ cycle_number self }
-    {
-        match self {
-            Cycle::Morning => 1,
-            Cycle::Intermediate => 2,
-            Cycle::Afternoon => 3,
+// The number that files and results carry for it.
+impl From<Cycle> for u8 {
+    ghost from_gives = { λ cycle number. number ≡ cycle_number cycle };
+
+    fn from(cycle: Cycle) -> u8 {
+        cycle as u8
+    }
+}
+
+// The cycle with that number.
+impl TryFrom<u8> for Cycle {
+    type Error = UnknownNumber;
+
+    ghost try_from_gives = { λ number answer. answer ≡ named (cycle_of number) number };
+
+    fn try_from(number: u8) -> Result<Cycle, UnknownNumber> {
+        match number {
+            1 => Ok(Cycle::Morning),
+            2 => Ok(Cycle::Intermediate),
+            3 => Ok(Cycle::Afternoon),
+            _ => Err(UnknownNumber(number)),
         }
     }
+}
 
-    // The cycle with that number.
-    pub fn of(number: u8) -> Option<Cycle>
-        ensures { result ≡ cycle_of number }
-    {
-        match number {
-            1 => Some(Cycle::Morning),
-            2 => Some(Cycle::Intermediate),
-            3 => Some(Cycle::Afternoon),
-            _ => None,
-        }
+impl fmt::Display for Cycle {
+    fn fmt<W: fmt::Write>(&self, f: &mut fmt::Formatter<W>) -> fmt::Result {
+        f.pad(match self {
+            Cycle::Morning => "morning",
+            Cycle::Intermediate => "intermediate",
+            Cycle::Afternoon => "afternoon",
+        })
     }
 }

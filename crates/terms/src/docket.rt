@@ -21,6 +21,7 @@ pub struct Docket {
     date: u32,
     cycle: Cycle,
     currency: Currency,
+    // An array with its length and no `Vec`: a docket is copied, and made without asking for memory.
     codes: [u16; ROLL_MOST],
     members: usize,
     // By code, where on the roll to look for it first. A wrong hint costs a search and never a wrong answer, so no ghost field speaks of the hints.

@@ -7,21 +7,17 @@ use crate::refusal::Refusal;
 // The layers of checks: of a record's own bytes, of the file, of the file against the session.
 #[derive(Clone, Copy, Debug, PartialEq, Eq)]
 pub enum Layer {
-    Fields,
-    File,
-    Session,
+    Fields = 1,
+    File = 2,
+    Session = 3,
 }
 
-impl Layer {
-    // The number that answers carry for it.
-    pub fn number(self) -> u8
-        ensures { result ≡ layer_number self }
-    {
-        match self {
-            Layer::Fields => 1,
-            Layer::File => 2,
-            Layer::Session => 3,
-        }
+// The number that answers carry for it.
+impl From<Layer> for u8 {
+    ghost from_gives = { λ layer number. number ≡ layer_number layer };
+
+    fn from(layer: Layer) -> u8 {
+        layer as u8
     }
 }
 
@@ -33,6 +29,7 @@ pub struct Fault {
     pub layer: Layer,
 }
 
+// Three constructors and none with the layer as an argument: a call says its layer in its name.
 impl Fault {
     // A fault of a record's own bytes.
     pub fn in_fields(cause: Refusal, place: usize) -> Fault

@@ -8,3 +8,4 @@ pub mod docket;
 pub mod fault;
 pub mod file_kind;
 pub mod refusal;
+pub mod unknown;

@@ -1,3 +1,3 @@
 pub mod Numbers
 pub mod Codes
-pub mod Heads
+pub mod Totals

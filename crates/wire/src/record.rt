@@ -1,48 +1,53 @@
 // The kinds of records, and a record as its kind with the value as a part of the file.
 ghost use Rattle.wire.specs.Records.{piece, said, tag_of, tag_byte, width};
-ghost use Rattle.std.specs.Prelude.{◌≡◌};
+ghost use Rattle.terms.specs.Unknown.{named};
+ghost use Rattle.std.specs.Prelude.{◌≡◌, ◌+◌, length};
 
-// The kinds of records that a member file may hold.
-#[derive(Clone, Copy)]
+use terms::unknown::UnknownNumber;
+
+// How many bytes stand before the value of a record: its tag, and the length of the value.
+const HEAD_BYTES: usize = 3;
+
+// The kinds of records that a member file may hold, by their tag bytes.
+#[derive(Clone, Copy, Debug, PartialEq, Eq)]
 pub enum Tag {
-    FileHeader,
-    BatchHeader,
-    Presentation,
-    Return,
-    BatchEnd,
-    FileEnd,
+    FileHeader = 1,
+    BatchHeader = 5,
+    Presentation = 6,
+    Return = 7,
+    BatchEnd = 8,
+    FileEnd = 9,
+}
+
+// The tag byte of the kind.
+impl From<Tag> for u8 {
+    ghost from_gives = { λ tag byte. byte ≡ tag_byte tag };
+
+    fn from(tag: Tag) -> u8 {
+        tag as u8
+    }
+}
+
+// The kind with that tag byte.
+impl TryFrom<u8> for Tag {
+    type Error = UnknownNumber;
+
+    ghost try_from_gives = { λ byte answer. answer ≡ named (tag_of byte) byte };
+
+    fn try_from(byte: u8) -> Result<Tag, UnknownNumber> {
+        match byte {
+            1 => Ok(Tag::FileHeader),
+            5 => Ok(Tag::BatchHeader),
+            6 => Ok(Tag::Presentation),
+            7 => Ok(Tag::Return),
+            8 => Ok(Tag::BatchEnd),
+            9 => Ok(Tag::FileEnd),
+            _ => Err(UnknownNumber(byte)),
+        }
+    }
 }
 
 impl Tag {
-    // The kind with that tag byte.
-    pub fn of(byte: u8) -> Option<Tag>
-        ensures { result ≡ tag_of byte }
-    {
-        match byte {
-            1 => Some(Tag::FileHeader),
-            5 => Some(Tag::BatchHeader),
-            6 => Some(Tag::Presentation),
-            7 => Some(Tag::Return),
-            8 => Some(Tag::BatchEnd),
-            9 => Some(Tag::FileEnd),
-            _ => None,
-        }
-    }
-
-    // The tag byte of the kind.
-    pub fn byte(self) -> u8
-        ensures { result ≡ tag_byte self }
-    {
-        match self {
-            Tag::FileHeader => 1,
-            Tag::BatchHeader => 5,
-            Tag::Presentation => 6,
-            Tag::Return => 7,
-            Tag::BatchEnd => 8,
-            Tag::FileEnd => 9,
-        }
-    }
-
     // How many bytes the value has.
     pub fn width(self) -> usize
         ensures { result ≡ width self }
@@ -73,6 +78,7 @@ impl Tag {
 }
 
 // A record by its kind, with its value as a part of the file.
+// The value is of any length: with the width in its type, whoever makes a record by `Tag::with` would have to show more.
 #[derive(Clone, Copy)]
 pub enum Record<'a> {
     FileHeader(&'a [u8]),
@@ -96,5 +102,11 @@ impl<'a> Record<'a> {
             Record::BatchEnd(v) => v,
             Record::FileEnd(v) => v,
         }
+    }
+    // How many bytes the record takes, head and value.
+    pub fn encoded_len(&self) -> usize
+        ensures { result ≡ 3 + length (said self.now).value }
+    {
+        HEAD_BYTES + self.value().len()
     }
 }

@@ -1,6 +1,6 @@
 // A row of a batch, and the totals over rows.
 ghost use Rattle.std.specs.Prelude.{◌≡◌, ◌<◌};
-ghost use Rattle.wire.specs.Rows.{Even, is_of, no_totals, plus, presentations, same_totals};
+ghost use Rattle.wire.specs.Rows.{Even, is_of, plus, presentations};
 
 use crate::values::{Presentation, Return, Totals};
 use terms::file_kind::FileKind;
@@ -35,28 +35,6 @@ impl Row {
 }
 
 impl Totals {
-    // The totals over no row.
-    pub fn none() -> Totals
-        ensures { result ≡ no_totals }
-    {
-        Totals {
-            count: 0,
-            amounts: 0,
-            commissions: 0,
-            parties: 0,
-        }
-    }
-
-    // Whether each total is the other's.
-    pub fn same(self, other: Totals) -> bool
-        ensures { result ≡ same_totals self other }
-    {
-        self.count == other.count
-            && self.amounts == other.amounts
-            && self.commissions == other.commissions
-            && self.parties == other.parties
-    }
-
     // The totals with one row more.
     pub fn plus(self, row: Row) -> Totals
         requires { (Even self) × (self.count < 65535) }

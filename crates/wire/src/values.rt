@@ -2,7 +2,7 @@
 ghost use Rattle.wire.specs.Values.{batch_head_in, closing_in, presentation_in, raw_header_in, return_in};
 ghost use Rattle.std.specs.Prelude.{◌≡◌, length};
 
-use crate::fields::{split_u16, split_u32, split_u64};
+use crate::fields::BigEndian;
 
 // A file header as the bytes have it, whether in range or not.
 #[derive(Clone, Copy)]
@@ -42,7 +42,7 @@ pub struct Return {
 }
 
 // Count and sums over the rows of a batch or a file; the parties are the other members or the originators.
-#[derive(Clone, Copy)]
+#[derive(Clone, Copy, Debug, Default, PartialEq, Eq)]
 pub struct Totals {
     pub count: u16,
     pub amounts: u64,
@@ -65,8 +65,8 @@ pub fn raw_header_in(v: &[u8]) -> RawHeader
     let [kind, currency, cycle, rest @ ..] = v else {
         unreachable()
     };
-    let (origin, rest) = split_u16(rest);
-    let (date, rest) = split_u32(rest);
+    let (origin, rest) = u16::split(rest);
+    let (date, rest) = u32::split(rest);
     let [number, ..] = rest else { unreachable() };
     RawHeader {
         kind: *kind,
@@ -84,7 +84,7 @@ pub fn batch_head_in(v: &[u8]) -> BatchHead
     ensures { result ≡ batch_head_in v.now }
 {
     let [kind, rest @ ..] = v else { unreachable() };
-    let (number, _) = split_u16(rest);
+    let (number, _) = u16::split(rest);
     BatchHead {
         kind: *kind,
         number,
@@ -99,10 +99,10 @@ pub fn presentation_in(v: &[u8]) -> Presentation
     let [record_type, rest @ ..] = v else {
         unreachable()
     };
-    let (other, rest) = split_u16(rest);
-    let (reference, rest) = split_u32(rest);
-    let (amount, rest) = split_u32(rest);
-    let (commission, _) = split_u16(rest);
+    let (other, rest) = u16::split(rest);
+    let (reference, rest) = u32::split(rest);
+    let (amount, rest) = u32::split(rest);
+    let (commission, _) = u16::split(rest);
     Presentation {
         record_type: *record_type,
         other,
@@ -117,10 +117,10 @@ pub fn return_in(v: &[u8]) -> Return
     requires { length v.now ≡ 13 }
     ensures { result ≡ return_in v.now }
 {
-    let (originator, rest) = split_u16(v);
-    let (reference, rest) = split_u32(rest);
-    let (amount, rest) = split_u32(rest);
-    let (commission, rest) = split_u16(rest);
+    let (originator, rest) = u16::split(v);
+    let (reference, rest) = u32::split(rest);
+    let (amount, rest) = u32::split(rest);
+    let (commission, rest) = u16::split(rest);
     let [cause, ..] = rest else { unreachable() };
     Return {
         originator,
@@ -136,11 +136,11 @@ pub fn closing_in(v: &[u8]) -> Closing
     requires { length v.now ≡ 24 }
     ensures { result ≡ closing_in v.now }
 {
-    let (number, rest) = split_u16(v);
-    let (count, rest) = split_u16(rest);
-    let (amounts, rest) = split_u64(rest);
-    let (commissions, rest) = split_u64(rest);
-    let (parties, _) = split_u32(rest);
+    let (number, rest) = u16::split(v);
+    let (count, rest) = u16::split(rest);
+    let (amounts, rest) = u64::split(rest);
+    let (commissions, rest) = u64::split(rest);
+    let (parties, _) = u32::split(rest);
     Closing {
         number,
         totals: Totals {

@@ -1,7 +1,7 @@
 -- A whole file that is not refused is written as it was given: no batch and no row is turned away.
-use Rattle.std.proofs.Common.{◌≡◌, ℕ, ◌+◌, ◌*◌, ◌<◌, ◌≤◌, Bool, true, false, cond, ◌&&◌, ltb, leb, List, [], ◌∷◌, ◌++◌, map, length, get_or, take, Some, None, Option, sym, refl, ap, ◌∙◌, subst, append_assoc, append-nil, arith, length-append, le-ltb, leb-true}
-use borrow.Author.Tests.{both_ways}
+use Rattle.std.proofs.Common.{◌≡◌, ℕ, ◌+◌, ◌*◌, ◌<◌, ◌≤◌, true, false, cond, ◌&&◌, ltb, leb, List, [], ◌∷◌, ◌++◌, map, length, get_or, take, Some, None, Option, sym, refl, ap, ◌∙◌, subst, append_assoc, append-nil, arith, length-append, le-ltb, leb-true}
 use Rattle.std.proofs.lemmas.List.{take_more}
+use Rattle.std.proofs.lemmas.Bool.{and_parts}
 use Rattle.terms.specs.declared.refusal.Refusal.{Refusal}
 use Rattle.terms.specs.declared.refusal.Refusal.TheVariants.{WriterSpace, WriterKind}
 use Rattle.wire.specs.Rows.{is_of}
@@ -55,25 +55,16 @@ bytes_more : (bs : List BatchValue) (b : BatchValue) → batch_bytes (bs ++ (b �
 bytes_more [] b = omega arith
 bytes_more (a ∷ bs) b = omega (arith, bytes_more bs b)
 
--- both of two tests
-and_left : (s t : Bool) → s && t ≡ true → s ≡ true
-and_left true t e = refl
-and_left false t e = e
-
-and_right : (s t : Bool) → s && t ≡ true → t ≡ true
-and_right true t e = e
-and_right false t e = absurd (both_ways false refl e)
-
 -- all rows of a batch go in where there is space for them
 rows_in_lem : (room : ℕ) (f : FileValue) (b : BatchValue) (rs : List Row) → 73 + batch_bytes f.batches + length b.rows * 16 + length rs * 16 ≤ room → all_of f.header.kind rs ≡ true → all_put room (drafting f b) rs ≡ drafting f (record { number = b.number; rows = b.rows ++ rs })
 rows_in_lem room f b [] h of = ap (λ l. drafting f (record { number = b.number; rows = l })) (sym (append-nil b.rows))
 rows_in_lem room f b (r ∷ rs) h of =
     let k = f.header.kind in
     let space : ltb room (length (begun_with f b) + 70) ≡ false = le-ltb _ _ (omega (arith, begun_with_length f b)) in
-    let check : row_check_at room (length (begun_with f b)) k r ≡ None = rw (space, and_left (is_of k r) (all_of k rs) of) in
+    let check : row_check_at room (length (begun_with f b)) k r ≡ None = rw (space, (and_parts (is_of k r) (all_of k rs) of).0) in
     let size = length-append b.rows (r ∷ []) in
     ap (λ o. all_put room (extended_by o (drafting f b) r) rs) check
-    ∙ rows_in_lem room f (with_row b r) rs (omega arith) (and_right (is_of k r) _ of)
+    ∙ rows_in_lem room f (with_row b r) rs (omega arith) (and_parts (is_of k r) _ of).1
     ∙ ap (λ l. drafting f (record { number = b.number; rows = l })) (append_assoc b.rows (r ∷ []) rs)
 
 -- all batches of a file go in where there is space for them and their numbers rise
@@ -84,12 +75,12 @@ batches_in room f (b ∷ bs) h rise of =
     let n = b.number in
     let last = last_from 0 f.batches in
     let space : ltb room (length (begun f) + 60) ≡ false = le-ltb _ _ (omega (arith, begun_length f)) in
-    let check : batch_check_at room (length (begun f)) last n ≡ None = rw (and_left (ltb last n) _ rise, space) in
-    let filled : all_put room (drafting f (blank_batch n)) b.rows ≡ drafting f b = rows_in_lem room f (blank_batch n) b.rows (omega arith) (and_left (all_of k b.rows) (each_of k bs) of) in
+    let check : batch_check_at room (length (begun f)) last n ≡ None = rw ((and_parts (ltb last n) _ rise).0, space) in
+    let filled : all_put room (drafting f (blank_batch n)) b.rows ≡ drafting f b = rows_in_lem room f (blank_batch n) b.rows (omega arith) (and_parts (all_of k b.rows) (each_of k bs) of).0 in
     let one : batch_put room (drafted f) b ≡ drafted (with_batch f b) = ap (λ o. closed (all_put room (started_by o (drafted f) n) b.rows)) check ∙ ap closed filled in
-    let rises : rises_from (last_from 0 (f.batches ++ (b ∷ []))) bs ≡ true = subst (λ m. rises_from m bs ≡ true) (sym (last_more 0 f.batches b)) (and_right (ltb last n) _ rise) in
+    let rises : rises_from (last_from 0 (f.batches ++ (b ∷ []))) bs ≡ true = subst (λ m. rises_from m bs ≡ true) (sym (last_more 0 f.batches b)) (and_parts (ltb last n) _ rise).1 in
     ap (λ d. all_written room d bs) one
-    ∙ batches_in room (with_batch f b) bs (omega (arith, bytes_more f.batches b)) rises (and_right (all_of k b.rows) _ of)
+    ∙ batches_in room (with_batch f b) bs (omega (arith, bytes_more f.batches b)) rises (and_parts (all_of k b.rows) _ of).1
     ∙ ap (λ l. drafted (record { header = f.header; batches = l })) (append_assoc f.batches (b ∷ []) bs)
 
 -- a file that is not refused
@@ -102,8 +93,8 @@ whole_written room f e =
     let of : each_of h.kind f.batches ≡ true = (else_none _ _ _ b.1).0 in
     let fit : 40 + batch_bytes f.batches ≤ room = omega (arith, leb-true (length (encode f)) room b.0, encode_length f) in
     let space : ltb room 40 ≡ false = le-ltb _ _ (omega arith) in
-    let check : file_check room h ≡ None = rw (and_left (ranged (raw_of h)) _ a.0, space) in
-    ap (λ o. all_written room (opened_by o h) f.batches) check ∙ batches_in room (blank_file h) f.batches (omega arith) (and_right (ranged (raw_of h)) _ a.0) of
+    let check : file_check room h ≡ None = rw ((and_parts (ranged (raw_of h)) _ a.0).0, space) in
+    ap (λ o. all_written room (opened_by o h) f.batches) check ∙ batches_in room (blank_file h) f.batches (omega arith) (and_parts (ranged (raw_of h)) _ a.0).1 of
 
 -- the check of the whole, by its parts
 pub no_space : (room : ℕ) (f : FileValue) → true ≡ ranged (raw_of f.header) → true ≡ rises_from 0 f.batches → false ≡ leb (40 + batch_bytes f.batches) room → Some WriterSpace ≡ whole_check room f

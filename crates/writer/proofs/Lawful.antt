@@ -1,5 +1,7 @@
 -- A header is taken by the reader exactly when its values are in range.
-use Rattle.std.proofs.Common.{◌≡◌, ℕ, Bool, true, false, cond, is_some, Some, None, Option, refl}
+use Rattle.std.proofs.Common.{◌≡◌, Bool, true, false, cond, is_some, Some, None, Option, refl, ◌∙◌}
+use Rattle.std.specs.Prelude.{is_ok, ok_or}
+use Rattle.terms.specs.declared.refusal.Refusal.TheVariants.{HeaderValue}
 use Rattle.terms.specs.Numbers.{currency_number, currency_of, cycle_number, cycle_of, kind_number, kind_of}
 use Rattle.terms.specs.declared.currency.Currency.{Currency}
 use Rattle.terms.specs.declared.currency.Currency.TheVariants.{Soles, Dollars}
@@ -31,8 +33,13 @@ some_cond false h = refl
 by_ranges : (a : Option FileKind) (b : Option Currency) (d : Option Cycle) (k : FileKind) (c : Currency) (y : Cycle) (r : RawHeader) → a ≡ Some k → b ≡ Some c → d ≡ Some y → is_some (header_by a b d r) ≡ ranged r
 by_ranges a b d k c y r p q s = rw (p, q, s) (some_cond (ranged r) _)
 
-pub taken_in_range : (h : Header) → is_some (header_of (raw_of h)) ≡ ranged (raw_of h)
+taken_in_range : (h : Header) → is_some (header_of (raw_of h)) ≡ ranged (raw_of h)
 taken_in_range h = by_ranges _ _ _ h.kind h.currency h.cycle (raw_of h) (kind_back h.kind) (currency_back h.currency) (cycle_back h.cycle)
 
-pub raw_by : (h : Header) (k c y : ℕ) → k ≡ kind_number h.kind → c ≡ currency_number h.currency → y ≡ cycle_number h.cycle → header_of (record { kind = k; currency = c; cycle = y; origin = h.origin; date = h.date; number = h.number }) ≡ header_of (raw_of h)
-raw_by h k c y p q s = λ i. header_of (record { kind = p i; currency = q i; cycle = s i; origin = h.origin; date = h.date; number = h.number })
+ok_some : (o : Option Header) → is_ok (ok_or o HeaderValue) ≡ is_some o
+ok_some (Some h) = refl
+ok_some None = refl
+
+-- the reader takes a header exactly where it is in range
+pub header_taken : (h : Header) → is_ok (ok_or (header_of (raw_of h)) HeaderValue) ≡ ranged (raw_of h)
+header_taken h = ok_some (header_of (raw_of h)) ∙ taken_in_range h

@@ -6,6 +6,10 @@ use Rattle.wire.specs.Rows.{no_totals, plus}
 use Rattle.wire.specs.declared.row.Row.{Row}
 use Rattle.writer.specs.declared.progress.Progress.{Progress}
 
+-- nothing written, and nothing refused
+abbrev pub blank_at : FileKind → Progress
+blank_at k = record { kind = k; refused = None; len = 0; batches = 0; last = 0; totals = no_totals; held = no_totals }
+
 -- nothing, in a file that was opened against its check
 abbrev pub refused_at : FileKind → Refusal → Progress
 refused_at k c = record { kind = k; refused = Some c; len = 0; batches = 0; last = 0; totals = no_totals; held = no_totals }

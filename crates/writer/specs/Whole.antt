@@ -1,5 +1,6 @@
 -- A whole file, given with all its batches: when it is refused, and what writing them one after another makes.
 use Rattle.std.specs.Prelude.{ℕ, ◌+◌, ◌*◌, Bool, true, cond, ◌&&◌, List, [], ◌∷◌, map, length, Some, None, Option, nat_le, nat_lt}
+use Rattle.std.specs.List.{list_all}
 use Rattle.terms.specs.declared.file_kind.FileKind.{FileKind}
 use Rattle.terms.specs.declared.refusal.Refusal.{Refusal}
 use Rattle.terms.specs.declared.refusal.Refusal.TheVariants.{WriterValue, WriterSpace, WriterKind}
@@ -25,13 +26,11 @@ rises_from n (b ∷ bs) = nat_lt n b.number && rises_from b.number bs
 
 -- each row is of a file of that kind
 abbrev pub all_of : FileKind → List Row → Bool
-all_of k [] = true
-all_of k (r ∷ rs) = is_of k r && all_of k rs
+all_of k = list_all (is_of k)
 
 -- and so is each row of each batch
 abbrev pub each_of : FileKind → List BatchValue → Bool
-each_of k [] = true
-each_of k (b ∷ bs) = all_of k b.rows && each_of k bs
+each_of k = list_all (λ b. all_of k b.rows)
 
 -- how many bytes the batches take
 abbrev pub batch_bytes : List BatchValue → ℕ

@@ -2,10 +2,10 @@
 #![tactic(auto)]
 
 pub mod batch_rows;
+mod checks;
 pub mod example;
 mod progress;
 mod records;
 pub mod states;
-mod steps;
 pub mod whole;
 mod written;

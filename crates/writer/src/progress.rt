@@ -1,4 +1,7 @@
 // How far a file is written.
+ghost use Rattle.std.specs.Prelude.{◌≡◌};
+ghost use Rattle.writer.specs.Steps.{blank_at};
+
 use terms::file_kind::FileKind;
 use terms::refusal::Refusal;
 use wire::values::Totals;
@@ -18,4 +21,22 @@ pub(crate) struct Progress {
     pub(crate) totals: Totals,
     // Over the rows of the last batch.
     pub(crate) held: Totals,
+}
+
+impl Progress {
+    // Nothing written, and nothing refused.
+    #[tactic(auto, using(wire::proofs::Totals::default_none))]
+    pub(crate) fn blank(kind: FileKind) -> Progress
+        ensures { result ≡ blank_at kind }
+    {
+        Progress {
+            kind,
+            refused: None,
+            len: 0,
+            batches: 0,
+            last: 0,
+            totals: Totals::default(),
+            held: Totals::default(),
+        }
+    }
 }

@@ -18,7 +18,8 @@ pub(crate) const ROW_BYTES: usize = 16;
 
 pub(crate) const END_BYTES: usize = 27;
 
-// Progress whose sums and counts are no more than the bytes written can hold.
+// Progress whose sums and counts are no more than the bytes written can hold. The progress is a type of its own, since a definition can
+// build one in full and cannot build a value that has facts beside it.
 #[derive(Clone, Copy)]
 pub(crate) struct Written {
     pub(crate) sofar: Progress,
@@ -35,15 +36,11 @@ impl Written {
     pub(crate) fn refused(kind: FileKind, refusal: Refusal) -> Written
         ensures { result.sofar ≡ refused_at kind refusal }
     {
+        let blank = Progress::blank(kind);
         Written {
             sofar: Progress {
-                kind,
                 refused: Some(refusal),
-                len: 0,
-                batches: 0,
-                last: 0,
-                totals: Totals::none(),
-                held: Totals::none(),
+                ..blank
             },
         }
     }
@@ -52,20 +49,17 @@ impl Written {
     pub(crate) fn begun(kind: FileKind) -> Written
         ensures { result.sofar ≡ begun_at kind }
     {
+        let blank = Progress::blank(kind);
         Written {
             sofar: Progress {
-                kind,
-                refused: None,
                 len: FILE_HEAD_BYTES,
-                batches: 0,
-                last: 0,
-                totals: Totals::none(),
-                held: Totals::none(),
+                ..blank
             },
         }
     }
 
     // With the header of a batch behind what is written.
+    #[tactic(auto, using(wire::proofs::Totals::default_none))]
     pub(crate) fn with_batch(self, number: u16) -> Written
         requires { self.sofar.len + 6 ≤ 65535 }
         ensures { result.sofar ≡ batched self.sofar number }
@@ -75,7 +69,7 @@ impl Written {
             sofar: Progress {
                 len: sofar.len + BATCH_HEAD_BYTES,
                 last: number,
-                held: Totals::none(),
+                held: Totals::default(),
                 ..sofar
             },
         }

@@ -3,7 +3,7 @@ use crate::answer::Answer;
 use crate::console::Console;
 use crate::files::{buffer, bytes_of};
 use crate::misread::Misread;
-use crate::names::{SourceKind, instrument_of, ranking_of, source_of};
+use crate::names::{INSTRUMENTS, RANKINGS, SOURCES, SourceKind, by_name};
 use crate::words::number;
 use clearing::place::{CAPACITY, Place};
 use desk::calls;
@@ -19,7 +19,7 @@ use rules::sources::AnySource;
 use session::session::Session;
 use std::alloc::Global;
 
-// Makes an intake upon the session.
+// Makes an intake upon the session. The types are parameters, since no proof is made where a call is built of a source by its own type.
 fn call_intake<'a, I: Instrument + Drop, R: Ranking + Drop, C: CoverSource + Drop>(
     session: &mut Session,
     instrument: &'a I,
@@ -48,10 +48,7 @@ fn call_clear<'a, I: Instrument + Drop, R: Ranking + Drop, C: CoverSource + Drop
 impl Console {
     // Opens a session of the docket as it stands. It uses no place beyond its greatest capacity, so that no more are made.
     pub fn open(&mut self, heap: Global, places: usize) -> Result<(), Misread> {
-        let mut table = Vec::new(heap);
-        for _ in 0..places.min(CAPACITY) {
-            table.push(Place::blank())?;
-        }
+        let table = vec![in heap; Place::blank(); places.min(CAPACITY)]?;
         self.session = Session::open(self.docket, table);
         Ok(())
     }
@@ -90,7 +87,7 @@ impl Console {
         let [places] = words else {
             return Err(Misread::Usage("open PLACES"));
         };
-        self.open(heap, number::<usize>(places)?)?;
+        self.open(heap, number(places)?)?;
         Ok(Answer::Done)
     }
 
@@ -98,14 +95,13 @@ impl Console {
         let [instrument, room, file] = words else {
             return Err(Misread::Usage("intake INSTRUMENT ROOM FILE"));
         };
-        let instrument = instrument_of(instrument)?;
-        let room = number::<usize>(room)?;
+        let instrument = by_name(&INSTRUMENTS, instrument).ok_or(Misread::Instrument)?;
+        let room = number(room)?;
         let bytes = bytes_of(rt, file)?;
         let mut outcomes = buffer(rt.alloc(), room)?;
         Ok(
             match self.take_in(instrument, &bytes, room, &mut outcomes) {
-                calls::Answer::Taken(taken) => Answer::Taken(taken, outcomes),
-                calls::Answer::Refused(fault) => Answer::Faulted(fault, outcomes),
+                calls::Answer::Intake(res) => Answer::Intake(res, outcomes),
                 calls::Answer::Withdrawn(count) => Answer::Withdrawn(count),
             },
         )
@@ -115,12 +111,12 @@ impl Console {
         let [rule, source] = words else {
             return Err(Misread::Usage("clear RULE SOURCE"));
         };
-        let rule = ranking_of(rule)?;
-        let kind = source_of(source)?;
+        let rule = by_name(&RANKINGS, rule).ok_or(Misread::Rule)?;
+        let kind = by_name(&SOURCES, source).ok_or(Misread::Source)?;
         Ok(match self.settle(rule, kind) {
             calls::Answer::Withdrawn(count) => Answer::Withdrawn(count),
-            calls::Answer::Refused(fault) => Answer::Refused(fault.cause),
-            calls::Answer::Taken(_) => Answer::Done,
+            calls::Answer::Intake(Err(fault)) => Answer::Refused(fault.cause),
+            calls::Answer::Intake(Ok(_)) => Answer::Done,
         })
     }
 
@@ -128,40 +124,40 @@ impl Console {
         let [code] = words else {
             return Err(Misread::Usage("position CODE"));
         };
-        Ok(Answer::from(self.session.position(number::<u16>(code)?)))
+        Ok(self.session.position(number(code)?).into())
     }
 
     pub(crate) fn bilateral(&self, words: &[&str]) -> Result<Answer, Misread> {
         let [first, second] = words else {
             return Err(Misread::Usage("bilateral CODE CODE"));
         };
-        let first = number::<u16>(first)?;
-        let second = number::<u16>(second)?;
-        Ok(Answer::from(self.session.bilateral(first, second)))
+        Ok(
+            self.session
+                .bilateral(number(first)?, number(second)?)
+                .into(),
+        )
     }
 
     pub(crate) fn cover(&self, words: &[&str]) -> Result<Answer, Misread> {
         let [code] = words else {
             return Err(Misread::Usage("cover CODE"));
         };
-        Ok(Answer::from(self.session.cover(number::<u16>(code)?)))
+        Ok(self.session.cover(number(code)?).into())
     }
 
     pub(crate) fn mark(&self, words: &[&str]) -> Result<Answer, Misread> {
         let [session_number] = words else {
             return Err(Misread::Usage("mark NUMBER"));
         };
-        Ok(Answer::from(self.session.mark(number::<usize>(session_number)?)))
+        Ok(self.session.mark(number(session_number)?).into())
     }
 
     pub(crate) fn result(&self, heap: Global, words: &[&str]) -> Result<Answer, Misread> {
         let [size] = words else {
             return Err(Misread::Usage("result SIZE"));
         };
-        let mut bytes = buffer(heap, number::<usize>(size)?)?;
-        Ok(match write_result(&self.session, &mut bytes) {
-            Ok(length) => Answer::Written(length, bytes),
-            Err(refusal) => Answer::Unwritten(refusal, bytes),
-        })
+        let mut bytes = buffer(heap, number(size)?)?;
+        let written = write_result(&self.session, &mut bytes);
+        Ok(Answer::Written(written, bytes))
     }
 }

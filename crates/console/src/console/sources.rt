@@ -40,11 +40,11 @@ impl Console {
         let [date, cycle, currency, codes @ ..] = words else {
             return Err(Misread::Usage("docket DATE CYCLE CURRENCY CODE..."));
         };
-        let date = number::<u32>(date)?;
-        let cycle = number::<u8>(cycle)?;
-        let currency = number::<u8>(currency)?;
+        let date = number(date)?;
+        let cycle = number(cycle)?;
+        let currency = number(currency)?;
         let roll = numbers(heap, codes)?;
-        Ok(Answer::from(self.set_docket(date, cycle, currency, &roll)))
+        Ok(self.set_docket(date, cycle, currency, &roll).into())
     }
 
     pub(crate) fn empty_statement(&mut self, words: &[&str]) -> Result<Answer, Misread> {
@@ -67,19 +67,17 @@ impl Console {
         let [code, balance] = words else {
             return Err(Misread::Usage("report CODE BALANCE"));
         };
-        let code = number::<u16>(code)?;
-        let balance = number::<u64>(balance)?;
-        Ok(Answer::from(self.set_balance(code, balance)))
+        Ok(self.set_balance(number(code)?, number(balance)?).into())
     }
 
     pub(crate) fn pledge(&mut self, words: &[&str]) -> Result<Answer, Misread> {
         let [code, balance, pledge, percent] = words else {
             return Err(Misread::Usage("pledge CODE BALANCE PLEDGE PERCENT"));
         };
-        let code = number::<u16>(code)?;
-        let balance = number::<u64>(balance)?;
-        let pledge = number::<u64>(pledge)?;
-        let percent = number::<u8>(percent)?;
-        Ok(Answer::from(self.set_pledge(code, balance, pledge, percent)))
+        let code = number(code)?;
+        let balance = number(balance)?;
+        let pledge = number(pledge)?;
+        let percent = number(percent)?;
+        Ok(self.set_pledge(code, balance, pledge, percent).into())
     }
 }

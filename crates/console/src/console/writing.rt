@@ -3,6 +3,7 @@ use crate::answer::Answer;
 use crate::console::Console;
 use crate::draft::Draft;
 use crate::misread::Misread;
+use crate::records::{Reading, header_in, presentation_in, return_in};
 use crate::words::number;
 use memberfile::header::Header;
 use std::alloc::Global;
@@ -10,7 +11,7 @@ use terms::currency::Currency;
 use terms::cycle::Cycle;
 use terms::file_kind::FileKind;
 use wire::row::Row;
-use wire::values::{Presentation, RawHeader, Return};
+use wire::values::RawHeader;
 
 // A header that the writer refuses, since no file has the number 0.
 const OUT_OF_RANGE: Header = Header {
@@ -24,59 +25,48 @@ const OUT_OF_RANGE: Header = Header {
 
 // The header to open a file with. One out of range says nothing more, so that any other such header stands for it.
 pub fn header_of(raw: RawHeader) -> Header {
-    match Header::of(raw) {
-        Some(header) => header,
-        None => OUT_OF_RANGE,
+    Header::try_from(raw).unwrap_or(OUT_OF_RANGE)
+}
+
+// The lines of the console have numbers alone.
+pub struct Numbers;
+
+impl Reading for Numbers {
+    const HEADER: &'static str = "wopen SIZE KIND CURRENCY CYCLE ORIGIN DATE NUMBER";
+
+    const PRESENTATION: &'static str = "wput6 TYPE OTHER REFERENCE AMOUNT COMMISSION";
+
+    const RETURN: &'static str = "wput7 ORIGINATOR REFERENCE AMOUNT COMMISSION CAUSE";
+
+    fn kind(word: &str) -> Result<u8, Misread> {
+        number(word)
+    }
+
+    fn currency(word: &str) -> Result<u8, Misread> {
+        number(word)
+    }
+
+    fn cycle(word: &str) -> Result<u8, Misread> {
+        number(word)
+    }
+
+    fn amount(word: &str) -> Result<u64, Misread> {
+        number(word)
     }
 }
 
-fn raw_header(words: &[&str]) -> Result<RawHeader, Misread> {
-    let [kind, currency, cycle, origin, date, file_number] = words else {
-        return Err(Misread::Usage("wopen SIZE KIND CURRENCY CYCLE ORIGIN DATE NUMBER"));
-    };
-    Ok(RawHeader {
-        kind: number::<u8>(kind)?,
-        currency: number::<u8>(currency)?,
-        cycle: number::<u8>(cycle)?,
-        origin: number::<u16>(origin)?,
-        date: number::<u32>(date)?,
-        number: number::<u8>(file_number)?,
-    })
-}
-
-fn presentation(words: &[&str]) -> Result<Row, Misread> {
-    let [record_type, other, reference, amount, commission] = words else {
-        return Err(Misread::Usage("wput6 TYPE OTHER REFERENCE AMOUNT COMMISSION"));
-    };
-    Ok(Row::Presentation(Presentation {
-        record_type: number::<u8>(record_type)?,
-        other: number::<u16>(other)?,
-        reference: number::<u32>(reference)?,
-        amount: number::<u32>(amount)?,
-        commission: number::<u16>(commission)?,
-    }))
-}
-
-fn returned(words: &[&str]) -> Result<Row, Misread> {
-    let [originator, reference, amount, commission, cause] = words else {
-        return Err(Misread::Usage("wput7 ORIGINATOR REFERENCE AMOUNT COMMISSION CAUSE"));
-    };
-    Ok(Row::Return(Return {
-        originator: number::<u16>(originator)?,
-        reference: number::<u32>(reference)?,
-        amount: number::<u32>(amount)?,
-        commission: number::<u16>(commission)?,
-        cause: number::<u8>(cause)?,
-    }))
-}
-
 impl Console {
+    // The file of the writer that is open.
+    fn open_draft(&mut self) -> Result<&mut Draft, Misread> {
+        self.draft.as_mut().ok_or(Misread::NoFileOpen)
+    }
+
     pub(crate) fn open_file(&mut self, heap: Global, words: &[&str]) -> Result<Answer, Misread> {
         let [size, rest @ ..] = words else {
-            return Err(Misread::Usage("wopen SIZE KIND CURRENCY CYCLE ORIGIN DATE NUMBER"));
+            return Err(Misread::Usage(Numbers::HEADER));
         };
-        let size = number::<usize>(size)?;
-        let header = header_of(raw_header(rest)?);
+        let size = number(size)?;
+        let header = header_of(header_in::<Numbers>(rest)?);
         if self.draft.is_some() {
             return Err(Misread::FileOpen);
         }
@@ -90,18 +80,14 @@ impl Console {
         let [batch_number] = words else {
             return Err(Misread::Usage("wbatch NUMBER"));
         };
-        let batch_number = number::<u16>(batch_number)?;
-        let Some(draft) = &mut self.draft else {
-            return Err(Misread::NoFileOpen);
-        };
+        let batch_number = number(batch_number)?;
+        let draft = self.open_draft()?;
         draft.open_batch(heap, batch_number)?;
         Ok(Answer::Checked(draft.replay(heap)?.newest))
     }
 
     fn put(&mut self, heap: Global, row: Row) -> Result<Answer, Misread> {
-        let Some(draft) = &mut self.draft else {
-            return Err(Misread::NoFileOpen);
-        };
+        let draft = self.open_draft()?;
         draft.put(row)?;
         Ok(Answer::Checked(draft.replay(heap)?.newest))
     }
@@ -111,21 +97,18 @@ impl Console {
         heap: Global,
         words: &[&str],
     ) -> Result<Answer, Misread> {
-        self.put(heap, presentation(words)?)
+        self.put(heap, presentation_in::<Numbers>(words)?)
     }
 
     pub(crate) fn put_return(&mut self, heap: Global, words: &[&str]) -> Result<Answer, Misread> {
-        self.put(heap, returned(words)?)
+        self.put(heap, return_in::<Numbers>(words)?)
     }
 
     pub(crate) fn close_batch(&mut self, words: &[&str]) -> Result<Answer, Misread> {
         if !words.is_empty() {
             return Err(Misread::Usage("wclose"));
         }
-        let Some(draft) = &mut self.draft else {
-            return Err(Misread::NoFileOpen);
-        };
-        draft.close_batch()?;
+        self.open_draft()?.close_batch()?;
         Ok(Answer::Done)
     }
 
@@ -133,14 +116,12 @@ impl Console {
         if !words.is_empty() {
             return Err(Misread::Usage("wfinish"));
         }
-        let Some(draft) = &self.draft else {
-            return Err(Misread::NoFileOpen);
-        };
+        let draft = self.open_draft()?;
         if draft.in_batch() {
             return Err(Misread::BatchOpen);
         }
         let replay = draft.replay(heap)?;
         self.draft = None;
-        Ok(Answer::Written(replay.len, replay.buffer))
+        Ok(Answer::Written(Ok(replay.len), replay.buffer))
     }
 }

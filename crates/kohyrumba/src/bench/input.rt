@@ -1,11 +1,12 @@
 // What is measured: a docket and member files from a folder, and covers by name.
-use crate::bench::AMPLE;
 use anyhow::anyhow;
 use clearing::place::{CAPACITY, Place};
 use rules::sources::statement::Statement;
 use std::alloc::Global;
 use std::fs;
 use terms::docket::Docket;
+
+const AMPLE: u64 = 1_000_000_000_000;
 
 const SCANT: u64 = 100_000;
 
@@ -20,9 +21,7 @@ pub(crate) struct Input {
 }
 
 fn number_in(words: &[&str], at: usize) -> anyhow::Result<u32> {
-    let Some(word) = words.get(at) else {
-        return Err(anyhow!("the docket is short"));
-    };
+    let word = words.get(at).ok_or_else(|| anyhow!("the docket is short"))?;
     Ok(word.parse::<u32>()?)
 }
 
@@ -32,15 +31,16 @@ fn docket_in(heap: Global, line: &str) -> anyhow::Result<Docket> {
     let date = number_in(&words, 0)?;
     let cycle = u8::try_from(number_in(&words, 1)?)?;
     let currency = u8::try_from(number_in(&words, 2)?)?;
-    let mut roll = Vec::new(heap);
-    for word in words.iter().skip(3) {
-        roll.push(word.parse::<u16>()?)?;
-    }
+    let roll: Vec<u16> = words
+        .iter()
+        .skip(3)
+        .map(|word| -> anyhow::Result<u16> { Ok(word.parse::<u16>()?) })
+        .try_collect(heap)?;
     let mut docket = Docket::built_in();
-    match docket.fill(date, cycle, currency, &roll) {
-        Ok(()) => Ok(docket),
-        Err(_) => Err(anyhow!("the docket is refused")),
-    }
+    docket
+        .fill(date, cycle, currency, &roll)
+        .map_err(|_| anyhow!("the docket is refused"))?;
+    Ok(docket)
 }
 
 // The folder's docket, and its files 0, 1, 2 and so on, up to the first that is not there.
@@ -60,24 +60,38 @@ pub(crate) fn read_input(rt: &HostRuntime, folder: &str) -> anyhow::Result<Input
 }
 
 pub(crate) fn blank_places(heap: Global) -> anyhow::Result<Vec<Place>> {
-    let mut places = Vec::new(heap);
-    for _ in 0..CAPACITY {
-        places.push(Place::blank())?;
-    }
-    Ok(places)
+    Ok(vec![in heap; Place::blank(); CAPACITY]?)
 }
 
-// Covers for the roll: enough for everything, little and different for each member, or none.
-pub(crate) fn covers_of(docket: &Docket, name: &str) -> Option<Statement> {
-    let mut statement = Statement::new();
-    for code in docket.roll() {
-        let balance = match name {
-            "ample" => AMPLE,
-            "scant" => u64::from(*code) * SCANT,
-            "none" => 0,
-            _ => return None,
-        };
-        let _ = statement.report(*code, balance);
+// The covers of members: enough for everything, little and different for each, or none.
+#[derive(Clone, Copy)]
+pub(crate) enum Covers {
+    Ample,
+    Scant,
+    None,
+}
+
+pub(crate) const COVERS: [(&str, Covers); 3] = [
+    ("ample", Covers::Ample),
+    ("scant", Covers::Scant),
+    ("none", Covers::None),
+];
+
+impl Covers {
+    fn balance(self, code: u16) -> u64 {
+        match self {
+            Covers::Ample => AMPLE,
+            Covers::Scant => u64::from(code) * SCANT,
+            Covers::None => 0,
+        }
     }
-    Some(statement)
+
+    // Such covers for the members of a roll.
+    pub(crate) fn of(self, roll: &[u16]) -> Statement {
+        let mut statement = Statement::new();
+        for code in roll {
+            let _ = statement.report(*code, self.balance(*code));
+        }
+        statement
+    }
 }

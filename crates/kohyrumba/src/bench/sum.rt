@@ -41,8 +41,8 @@ impl Sum {
     }
 
     pub(crate) fn add_fault(&mut self, fault: Fault) {
-        self.add(u64::from(fault.cause.code()));
-        self.add(u64::from(fault.layer.number()));
+        self.add(u64::from(u8::from(fault.cause)));
+        self.add(u64::from(u8::from(fault.layer)));
         self.add(fault.place as u64);
     }
 
@@ -60,7 +60,7 @@ impl Sum {
     fn add_marks(&mut self, session: &Session) {
         for number in 1..=session.held() {
             if let Ok(mark) = session.mark(number) {
-                self.add(u64::from(mark.number()));
+                self.add(u64::from(u8::from(mark)));
             }
         }
     }

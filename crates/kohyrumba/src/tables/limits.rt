@@ -1,5 +1,8 @@
 // The command `rules`: the limits of each instrument, asked from the instrument itself.
+ghost use Rattle.std.specs.Prelude.{◌≤◌};
+
 use crate::usage::bad_usage;
+use console::names::{CURRENCIES, INSTRUMENTS};
 use rules::instrument::{Denial, Instrument};
 use rules::instruments::AnyInstrument;
 use sitting::amounts::Money;
@@ -8,35 +11,37 @@ use terms::currency::Currency;
 
 // Whether the instrument knows the record type.
 fn knows(instrument: AnyInstrument, record_type: u8, currency: Currency) -> bool {
-    match instrument.admit(record_type, currency, 0, 0) {
-        Ok(_) => true,
-        Err(denial) => denial != Denial::RecordType,
-    }
+    instrument.admit(record_type, currency, 0, 0) != Err(Denial::RecordType)
 }
 
 // The lowest and the highest type that the instrument knows.
 fn types_of(instrument: AnyInstrument, currency: Currency) -> (u8, u8) {
-    let mut lowest = u8::MAX;
-    let mut highest = 0;
-    for record_type in 0..=u8::MAX {
-        if knows(instrument, record_type, currency) {
-            lowest = lowest.min(record_type);
-            highest = highest.max(record_type);
-        }
-    }
-    (lowest, highest)
+    let lowest = (0..=u8::MAX).find(|record_type| knows(instrument, *record_type, currency));
+    let highest = (0..=u8::MAX).rfind(|record_type| knows(instrument, *record_type, currency));
+    (lowest.unwrap_or(u8::MAX), highest.unwrap_or(0))
 }
 
-// The highest amount that is admitted, found bit by bit: every lower one down to 1 is admitted too.
-fn highest_amount(instrument: AnyInstrument, record_type: u8, currency: Currency) -> u32 {
-    let mut highest = 0u32;
-    for bit in 0..32u32 {
-        let higher = highest | (0x8000_0000u32 >> bit);
-        if instrument.admit(record_type, currency, higher, 0).is_ok() {
+// The highest number of so many bits that passes, found bit by bit: every lower one down to 1 passes too.
+fn highest<F: Fn(u32) -> bool>(bits: u32, passes: F) -> u32
+    requires callable { F.IsAlwaysCallable passes }
+    requires bits { bits ≤ 32 }
+{
+    let mut highest = 0;
+    for bit in (0..bits).rev() {
+        let higher = highest | (1 << bit);
+        if passes(higher) {
             highest = higher;
         }
     }
     highest
+}
+
+// The highest amount that is admitted.
+fn highest_amount(instrument: AnyInstrument, record_type: u8, currency: Currency) -> u32 {
+    highest(
+        32,
+        |amount| instrument.admit(record_type, currency, amount, 0).is_ok(),
+    )
 }
 
 // The highest commission that is admitted with that amount.
@@ -45,18 +50,12 @@ fn highest_commission(
     record_type: u8,
     currency: Currency,
     amount: u32,
-) -> u16 {
-    let mut highest = 0u16;
-    for bit in 0..16u32 {
-        let higher = highest | (0x8000u16 >> bit);
-        if instrument
-            .admit(record_type, currency, amount, higher)
-            .is_ok()
-        {
-            highest = higher;
-        }
-    }
-    highest
+) -> u32 {
+    highest(16, |commission| {
+        u16::try_from(commission).is_ok_and(|fits| instrument
+            .admit(record_type, currency, amount, fits)
+            .is_ok())
+    })
 }
 
 fn yes_or_no(answer: bool) -> &'static str {
@@ -64,14 +63,6 @@ fn yes_or_no(answer: bool) -> &'static str {
 }
 
 fn show_limits(rt: &HostRuntime, instrument: AnyInstrument, currency: Currency) -> io::Result<()> {
-    let name = match instrument {
-        AnyInstrument::Transfers => "transfers",
-        AnyInstrument::Debits => "debits",
-    };
-    let money = match currency {
-        Currency::Soles => "soles",
-        Currency::Dollars => "dollars",
-    };
     let (lowest, highest) = types_of(instrument, currency);
     let most = highest_amount(instrument, lowest, currency);
     let commission = highest_commission(instrument, lowest, currency, most);
@@ -81,20 +72,21 @@ fn show_limits(rt: &HostRuntime, instrument: AnyInstrument, currency: Currency) 
     let pays = yes_or_no(instrument.origin_pays());
     let returns = yes_or_no(instrument.takes_returns());
     println!(rt;
-        "{name:<11} {money:<9} {lowest:>3} to {highest:<3} {most:>14} {commission:>14}  {zero:<9} {pays:<12} {returns}"
+        "{instrument:<11} {currency:<9} {lowest:>3} to {highest:<3} {most:>14} {commission:>14}  {zero:<9} {pays:<12} {returns}"
     )
 }
 
-pub(crate) fn show_rules(rt: &HostRuntime, words: &[String]) -> anyhow::Result<()> {
+pub(crate) fn show_rules(rt: &HostRuntime, words: &[&str]) -> anyhow::Result<()> {
     if !words.is_empty() {
         return bad_usage(rt, "rules: nothing more is wanted");
     }
     println!(rt;
         "instrument  currency  types      highest amount     commission  amount 0  origin pays  returns"
     )?;
-    for instrument in [AnyInstrument::Transfers, AnyInstrument::Debits] {
-        show_limits(rt, instrument, Currency::Soles)?;
-        show_limits(rt, instrument, Currency::Dollars)?;
+    for (_, instrument) in INSTRUMENTS {
+        for (_, currency) in CURRENCIES {
+            show_limits(rt, instrument, currency)?;
+        }
     }
     Ok(())
 }

@@ -7,22 +7,19 @@ use std::io;
 
 // The session numbers of the records kept.
 fn show_kept(rt: &HostRuntime, places: &[Place], held: usize) -> io::Result<()> {
-    let mut some = false;
-    for (at, place) in places.iter().take(held).enumerate() {
-        if place.kept {
-            let number = at.saturating_add(1);
-            print!(rt; " {number}")?;
-            some = true;
-        }
+    if !places.iter().take(held).any(|place| place.kept) {
+        return print!(rt; " none");
     }
-    if !some {
-        print!(rt; " none")?;
+    for (number, place) in (1..usize::MAX).zip(places.iter().take(held)) {
+        if place.kept {
+            print!(rt; " {number}")?;
+        }
     }
     Ok(())
 }
 
 fn show_case(rt: &HostRuntime, case: Case) -> io::Result<()> {
-    let letter = case.letter();
+    let letter = char::from(case);
     let outcome = run(case);
     print!(rt; "{letter}  kept")?;
     show_kept(rt, &outcome.places, outcome.held)?;
@@ -33,7 +30,7 @@ fn show_case(rt: &HostRuntime, case: Case) -> io::Result<()> {
     println!(rt; "")
 }
 
-pub(crate) fn show_cases(rt: &HostRuntime, words: &[String]) -> anyhow::Result<()> {
+pub(crate) fn show_cases(rt: &HostRuntime, words: &[&str]) -> anyhow::Result<()> {
     if !words.is_empty() {
         return bad_usage(rt, "cases: nothing more is wanted");
     }

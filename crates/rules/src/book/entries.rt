@@ -1,7 +1,7 @@
 // Reading a book, and entering a report into it.
-ghost use Rattle.std.specs.Prelude.{◌≡◌, ℕ, ◌<◌, ◌≤◌, [], MatchResult, ◌≢◌, nat_lt};
+ghost use Rattle.std.specs.Prelude.{◌≡◌, ◌≤◌, [], MatchOption, MatchResult, nat_lt};
 ghost use Rattle.rules.specs.Books.{held_in};
-ghost use Rattle.rules.specs.Reports.{Reported, amount_at, amount_of, code_at, room_for};
+ghost use Rattle.rules.specs.Reports.{FirstFor, Misses, Reported, amount_of, room_for};
 
 use crate::book::{Book, CODES, Report};
 use terms::refusal::Refusal;
@@ -25,31 +25,22 @@ impl Book {
         }
     }
 
-    // The place of the report for the code, or the first place not in use where there is none.
-    fn place_of(&self, code: u16) -> usize
-        ensures within { result ≤ self.now.held }
-        ensures before { (k : ℕ) → k < result → code_at self.now.reports k ≢ code }
-        ensures found { result < self.now.held → code_at self.now.reports result ≡ code }
-        ensures amount { result < self.now.held → amount_of code (held_in self.now) ≡ amount_at self.now.reports result }
-        ensures none { self.now.held ≤ result → amount_of code (held_in self.now) ≡ 0 }
+    // The place of the report for the code, if one is in use.
+    fn place_of(&self, code: u16) -> Option<usize>
+        ensures { MatchOption result (Misses code self.now.reports self.now.held) (λ at. FirstFor code self.now.reports self.now.held at) }
     {
-        for i in 0..self.held {
-            if self.reports[i].code == code {
-                return i;
-            }
-        }
-        self.held
+        self.reports[..self.held]
+            .iter()
+            .position(|report| report.code == code)
     }
 
     // The amount for the code, 0 where none is reported.
     pub fn amount(&self, code: u16) -> u64
         ensures { result ≡ amount_of code (held_in self.now) }
     {
-        let at = self.place_of(code);
-        if at < self.held {
-            self.reports[at].amount
-        } else {
-            0
+        match self.place_of(code) {
+            Some(at) => self.reports[at].amount,
+            None => 0,
         }
     }
 
@@ -59,7 +50,7 @@ impl Book {
         ensures answer { result ≡ room_for report.code (held_in self.old) }
         ensures after { MatchResult result (λ _. Reported report.code report.amount (held_in self.old) (held_in self.new)) (λ _. self.new ≡ self.old) }
     {
-        let at = self.place_of(report.code);
+        let at = self.place_of(report.code).unwrap_or(self.held);
         if !is_place(at) {
             return Err(Refusal::TooManyReports);
         }

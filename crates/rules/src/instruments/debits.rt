@@ -4,7 +4,7 @@ ghost use Rattle.std.specs.Prelude.{◌≡◌};
 ghost use Rattle.std.proofs.Common.{rules};
 
 use crate::instrument::{Denial, Instrument};
-use crate::instruments::COMMISSION_LIMIT;
+use crate::instruments::{AmountLimits, COMMISSION_LIMIT};
 use terms::currency::Currency;
 
 #[derive(Clone, Copy)]
@@ -17,14 +17,16 @@ impl ChargedDebits {
 
     pub const DOLLARS_LIMIT: u32 = 2_000_000;
 
+    const LIMITS: AmountLimits = AmountLimits {
+        soles: Self::SOLES_LIMIT,
+        dollars: Self::DOLLARS_LIMIT,
+    };
+
     // The highest amount in that currency.
     pub fn amount_limit(currency: Currency) -> u32
         ensures { result ≡ debit_limit currency }
     {
-        match currency {
-            Currency::Soles => Self::SOLES_LIMIT,
-            Currency::Dollars => Self::DOLLARS_LIMIT,
-        }
+        Self::LIMITS.of(currency)
     }
 
     // A commission above the amount would make the receiver pay.

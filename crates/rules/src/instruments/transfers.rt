@@ -4,7 +4,7 @@ ghost use Rattle.std.specs.Prelude.{◌≡◌};
 ghost use Rattle.std.proofs.Common.{rules};
 
 use crate::instrument::{Denial, Instrument};
-use crate::instruments::COMMISSION_LIMIT;
+use crate::instruments::{AmountLimits, COMMISSION_LIMIT};
 use terms::currency::Currency;
 
 #[derive(Clone, Copy)]
@@ -21,14 +21,16 @@ impl CreditTransfers {
 
     pub const DOLLARS_LIMIT: u32 = 10_000_000;
 
+    const LIMITS: AmountLimits = AmountLimits {
+        soles: Self::SOLES_LIMIT,
+        dollars: Self::DOLLARS_LIMIT,
+    };
+
     // The highest amount in that currency.
     pub fn amount_limit(currency: Currency) -> u32
         ensures { result ≡ transfer_limit currency }
     {
-        match currency {
-            Currency::Soles => Self::SOLES_LIMIT,
-            Currency::Dollars => Self::DOLLARS_LIMIT,
-        }
+        Self::LIMITS.of(currency)
     }
 
     fn has_type(record_type: u8) -> bool

@@ -1,8 +1,7 @@
 // Pledges: the balance of each member and a part of what it has pledged, as last reported.
 ghost use Rattle.std.specs.Prelude.{◌≡◌, ℕ, ◌≤◌, [], MatchResult};
-ghost use Rattle.rules.specs.Books.{held_in};
 ghost use Rattle.rules.specs.Reports.{Reported, answer_to};
-ghost use Rattle.rules.specs.Sources.{is_pledge, pledged, pledges_cover};
+ghost use Rattle.rules.specs.Sources.{is_pledge, pledged, pledges_cover, pledges_in};
 ghost use Rattle.std.proofs.Common.{rules};
 
 use crate::book::{Book, Report};
@@ -10,6 +9,7 @@ use crate::cover::CoverSource;
 use crate::sources::is_member_code;
 use terms::refusal::Refusal;
 
+// Not one type with the statement: a report has other fields and another rule here, and only the book is the same.
 #[derive(Clone, Copy)]
 pub struct Pledges {
     book: Book,
@@ -24,7 +24,7 @@ impl Pledges {
 
     // Pledges that know of no member.
     pub fn new() -> Self
-        ensures held { held_in result.book ≡ [] }
+        ensures held { pledges_in result ≡ [] }
         ensures cover { (code : ℕ) → pledges_cover result code ≡ 0 }
     {
         Pledges { book: Book::new() }
@@ -58,8 +58,8 @@ impl Pledges {
         pledge: u64,
         percent: u8,
     ) -> Result<(), Refusal>
-        ensures answer { result ≡ answer_to (is_pledge code balance pledge percent) code (held_in self.old.book) }
-        ensures after { MatchResult result (λ _. Reported code (pledged balance pledge percent) (held_in self.old.book) (held_in self.new.book)) (λ _. self.new ≡ self.old) }
+        ensures answer { result ≡ answer_to (is_pledge code balance pledge percent) code (pledges_in self.old) }
+        ensures after { MatchResult result (λ _. Reported code (pledged balance pledge percent) (pledges_in self.old) (pledges_in self.new)) (λ _. self.new ≡ self.old) }
     {
         if !Self::takes(code, balance, pledge, percent) {
             return Err(Refusal::ReportLimits);

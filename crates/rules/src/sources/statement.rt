@@ -1,8 +1,7 @@
 // The statement: the balance of each member, as last reported.
 ghost use Rattle.std.specs.Prelude.{◌≡◌, ℕ, [], MatchResult};
-ghost use Rattle.rules.specs.Books.{held_in};
 ghost use Rattle.rules.specs.Reports.{Reported, answer_to};
-ghost use Rattle.rules.specs.Sources.{is_balance, statement_cover};
+ghost use Rattle.rules.specs.Sources.{balances_in, is_balance, statement_cover};
 ghost use Rattle.std.proofs.Common.{rules};
 
 use crate::book::{Book, Report};
@@ -20,7 +19,7 @@ impl Statement {
 
     // A statement that knows of no member.
     pub fn new() -> Self
-        ensures held { held_in result.book ≡ [] }
+        ensures held { balances_in result ≡ [] }
         ensures cover { (code : ℕ) → statement_cover result code ≡ 0 }
     {
         Statement { book: Book::new() }
@@ -35,8 +34,8 @@ impl Statement {
 
     // Takes a member's balance in place of the one reported before.
     pub fn report(&mut self, code: u16, balance: u64) -> Result<(), Refusal>
-        ensures answer { result ≡ answer_to (is_balance code balance) code (held_in self.old.book) }
-        ensures after { MatchResult result (λ _. Reported code balance (held_in self.old.book) (held_in self.new.book)) (λ _. self.new ≡ self.old) }
+        ensures answer { result ≡ answer_to (is_balance code balance) code (balances_in self.old) }
+        ensures after { MatchResult result (λ _. Reported code balance (balances_in self.old) (balances_in self.new)) (λ _. self.new ≡ self.old) }
     {
         if !Self::takes(code, balance) {
             return Err(Refusal::ReportLimits);

@@ -1,11 +1,12 @@
 // A file against the session, before its rows are looked at.
-ghost use Rattle.std.specs.Prelude.{◌≡◌, ◌+◌, ◌<◌, not, ◌&&◌, IfOk, ◌==◌, slice_index};
+ghost use Rattle.std.specs.Prelude.{◌≡◌, ◌+◌, ◌<◌, not, ◌&&◌, IfSome, ◌==◌};
 ghost use Rattle.rules.specs.Meaning.{Meaning};
-ghost use Rattle.session.specs.Files.{admitted, entered_number, file_refusal, is_of_day, is_returns, sender_of};
-ghost use Rattle.session.specs.Ledger.{ledger_of, numbers_in};
+ghost use Rattle.session.specs.Files.{admitted, file_refusal, is_of_day, is_returns, sender_of};
+ghost use Rattle.session.specs.Ledger.{ledger_of, number_of, numbered};
+ghost use Rattle.session.specs.Parts.{docket_of};
 ghost use Rattle.session.specs.Refusals.{unless};
-ghost use Rattle.terms.specs.Dockets.{day_of};
-ghost use Rattle.terms.specs.declared.file_kind.FileKind.TheVariants.{Presentations, Returns};
+ghost use Rattle.terms.specs.Dockets.{day_of, roll_of};
+ghost use Rattle.terms.specs.Rolls.{place_in};
 
 use crate::session::{FileNumbers, Sender, Session};
 use memberfile::check::Summary;
@@ -16,26 +17,23 @@ use terms::file_kind::FileKind;
 use terms::refusal::Refusal;
 
 impl FileNumbers {
-    // The last accepted number of that kind from the member at a place on the roll.
-    fn last(&self, kind: FileKind, place: u8) -> u8
-        requires { place < 64 }
-        ensures { result ≡ slice_index (numbers_in kind self.now) place }
+    // The last accepted number of that kind.
+    fn last(&self, kind: FileKind) -> u8
+        ensures { result ≡ number_of kind self.now }
     {
         match kind {
-            FileKind::Presentations => self.presentations[place as usize],
-            FileKind::Returns => self.returns[place as usize],
+            FileKind::Presentations => self.presentations,
+            FileKind::Returns => self.returns,
         }
     }
 
     // Enters the number of an accepted file.
-    pub(crate) fn enter(&mut self, kind: FileKind, place: u8, number: u8)
-        requires { place < 64 }
-        ensures presentations { self.new.presentations ≡ entered_number Presentations kind place number self.old.presentations }
-        ensures returns { self.new.returns ≡ entered_number Returns kind place number self.old.returns }
+    pub(crate) fn enter(&mut self, kind: FileKind, number: u8)
+        ensures { self.new ≡ numbered kind number self.old }
     {
         match kind {
-            FileKind::Presentations => self.presentations[place as usize] = number,
-            FileKind::Returns => self.returns[place as usize] = number,
+            FileKind::Presentations => self.presentations = number,
+            FileKind::Returns => self.returns = number,
         }
     }
 }
@@ -60,11 +58,20 @@ fn is_next(number: u8, last: u8) -> bool
 impl Session {
     // Whether date, cycle and currency of the header are the session's.
     fn is_of_day(&self, header: Header) -> bool
-        ensures { result ≡ is_of_day (day_of self.now.docket) header }
+        ensures { result ≡ is_of_day (day_of (docket_of self.now)) header }
     {
         header.date == self.docket.date()
-            && header.cycle.number() == self.docket.cycle().number()
-            && header.currency.number() == self.docket.currency().number()
+            && header.cycle == self.docket.cycle()
+            && header.currency == self.docket.currency()
+    }
+
+    // The place on the roll of a member.
+    pub(crate) fn place_of(&self, code: u16) -> Option<u8>
+        ensures value { result ≡ place_in (roll_of (docket_of self.now)) code }
+        ensures low { IfSome result (λ place. place < 64) }
+    {
+        let place = self.docket.place_of(code)?;
+        Some(place as u8)
     }
 
     // The sender of a file that may be taken in, or why it may not.
@@ -74,18 +81,16 @@ impl Session {
         file: Summary,
         room: usize,
     ) -> Result<Sender, Refusal>
-        ensures sender { result ≡ unless (file_refusal (ledger_of self.now) (I.Instrument.meaning instrument.now) file room) (sender_of (ledger_of self.now) file.header) }
-        ensures place { IfOk result (λ s. s.place < 64) }
+        ensures { result ≡ unless (file_refusal (ledger_of self.now) (I.Instrument.meaning instrument.now) file room) (sender_of (ledger_of self.now) file.header) }
     {
         let header = file.header;
         if !self.is_of_day(header) {
             return Err(Refusal::NotThisSession);
         }
-        let Some(place) = self.docket.place_of(header.origin) else {
-            return Err(Refusal::OriginOffRoll);
-        };
-        let place = place as u8;
-        if !is_next(header.number, self.numbers.last(header.kind, place)) {
+        let code = header.origin;
+        let place = self.place_of(code).ok_or(Refusal::OriginOffRoll)?;
+        let last = self.numbers[place as usize].last(header.kind);
+        if !is_next(header.number, last) {
             return Err(Refusal::FileNumber);
         }
         if is_untaken(header.kind, instrument.takes_returns()) {
@@ -97,10 +102,7 @@ impl Session {
         if room < usize::from(file.rows) {
             return Err(Refusal::OutcomesShort);
         }
-        Ok(Sender {
-            code: header.origin,
-            place,
-        })
+        Ok(Sender { code, place })
     }
 
     // The sender of a file that may be taken in, or the fault of the whole file.
@@ -110,12 +112,9 @@ impl Session {
         file: Summary,
         room: usize,
     ) -> Result<Sender, Fault>
-        ensures sender { result ≡ admitted (file_refusal (ledger_of self.now) (I.Instrument.meaning instrument.now) file room) (sender_of (ledger_of self.now) file.header) }
-        ensures place { IfOk result (λ s. s.place < 64) }
+        ensures { result ≡ admitted (file_refusal (ledger_of self.now) (I.Instrument.meaning instrument.now) file room) (sender_of (ledger_of self.now) file.header) }
     {
-        match self.judge_file(instrument, file, room) {
-            Ok(sender) => Ok(sender),
-            Err(cause) => Err(Fault::in_session(cause)),
-        }
+        self.judge_file(instrument, file, room)
+            .map_err(Fault::in_session)
     }
 }

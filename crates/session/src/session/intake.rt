@@ -6,7 +6,6 @@ ghost use Rattle.std.specs.Prelude.{◌≡◌, length};
 
 use crate::session::{Session, Taken};
 use memberfile::check::check;
-use memberfile::rows::Rows;
 use rules::instrument::Instrument;
 use terms::fault::Fault;
 
@@ -25,9 +24,8 @@ impl Session {
     {
         let summary = check(file)?;
         let sender = self.admit(instrument, summary, out.len())?;
-        let taken = self.take_rows(instrument, sender, Rows::new(file), out);
-        self.numbers
-            .enter(summary.header.kind, sender.place, summary.header.number);
+        let taken = self.take_rows(instrument, sender, file, out);
+        self.numbers[sender.place as usize].enter(summary.header.kind, summary.header.number);
         self.cleared = false;
         Ok(taken)
     }

@@ -11,12 +11,12 @@ pub enum Mark {
     Returned,
 }
 
-impl Mark {
-    // The number that answers carry for it.
-    pub fn number(self) -> u8
-        ensures { result ≡ mark_number self }
-    {
-        match self {
+// The number that answers carry for a mark.
+impl From<Mark> for u8 {
+    ghost from_gives = { λ mark r. r ≡ mark_number mark };
+
+    fn from(mark: Mark) -> u8 {
+        match mark {
             Mark::Unmarked => 0,
             Mark::Kept => 1,
             Mark::Withdrawn => 2,

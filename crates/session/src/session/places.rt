@@ -1,5 +1,6 @@
 // What stands at the places of a session: entries by their place in the table, members by their place on the roll.
 ghost use Rattle.clearing.specs.Table.{cover_of};
+ghost use Rattle.session.specs.Parts.{covers_of, stands_cleared, table_of};
 ghost use Rattle.session.specs.Questions.{SheetIn, position_at};
 ghost use Rattle.table.specs.Entries.{entries_of, entry_in, kept_of};
 ghost use Rattle.std.specs.Prelude.{◌≡◌};
@@ -11,21 +12,21 @@ use clearing::sheet::Sheet;
 impl Session {
     // Whether the session stands cleared.
     pub fn is_cleared(&self) -> bool
-        ensures { result ≡ self.now.cleared }
+        ensures { result ≡ stands_cleared self.now }
     {
         self.cleared
     }
 
     // The entry at a place, from 0.
     pub fn entry_at(&self, at: usize) -> Option<Entry>
-        ensures { result ≡ entry_in (entries_of self.now.table) at }
+        ensures { result ≡ entry_in (entries_of (table_of self.now)) at }
     {
         self.table.entry_at(at)
     }
 
     // Whether the last clearing kept the entry at a place; false where none stands.
     pub fn is_kept(&self, at: usize) -> bool
-        ensures { result ≡ kept_of self.now.table at }
+        ensures { result ≡ kept_of (table_of self.now) at }
     {
         self.table.is_kept(at)
     }
@@ -46,7 +47,7 @@ impl Session {
 
     // The cover stored for the member at a place on the roll.
     pub fn cover_at(&self, place: u8) -> u64
-        ensures { result ≡ cover_of self.now.covers place }
+        ensures { result ≡ cover_of (covers_of self.now) place }
     {
         self.covers.amount(place)
     }

@@ -1,8 +1,8 @@
 // Questions to a session; none changes it.
 ghost use Rattle.std.specs.Prelude.{◌≡◌, ◌≤◌, length};
-ghost use Rattle.session.specs.Questions.{bilateral_answer, cover_answer, mark_answer, mark_of, position_answer};
+ghost use Rattle.session.specs.Parts.{docket_of, table_of};
+ghost use Rattle.session.specs.Questions.{bilateral_answer, cover_answer, listed_place, mark_answer, position_answer};
 ghost use Rattle.table.specs.Entries.{entries_of};
-ghost use Rattle.terms.specs.Dockets.{day_of};
 
 use crate::session::Session;
 use crate::session::mark::Mark;
@@ -12,14 +12,14 @@ use terms::refusal::Refusal;
 impl Session {
     // The docket that the session was opened with.
     pub fn docket(&self) -> &Docket
-        ensures { result.now ≡ self.now.docket }
+        ensures { result.now ≡ docket_of self.now }
     {
         &self.docket
     }
 
     // How many records were taken in.
     pub fn held(&self) -> usize
-        ensures value { result ≡ length (entries_of self.now.table) }
+        ensures value { result ≡ length (entries_of (table_of self.now)) }
         ensures few { result ≤ 4096 }
     {
         self.table.held()
@@ -29,13 +29,8 @@ impl Session {
     pub fn mark(&self, number: usize) -> Result<Mark, Refusal>
         ensures { result ≡ mark_answer self.now number }
     {
-        if number == 0 {
-            return Err(Refusal::NotListed);
-        }
-        let at = number - 1;
-        let Some(entry) = self.table.entry_at(at) else {
-            return Err(Refusal::NotListed);
-        };
+        let at = number.checked_sub(1).ok_or(Refusal::NotListed)?;
+        let entry = self.table.entry_at(at).ok_or(Refusal::NotListed)?;
         if !self.cleared {
             return Ok(Mark::Unmarked);
         }
@@ -49,45 +44,38 @@ impl Session {
         }
     }
 
-    // The position of a member: worth received minus worth paid, over kept records.
-    pub fn position(&self, code: u16) -> Result<i64, Refusal>
-        ensures { result ≡ position_answer self.now code }
+    // The place of a member that a question names, while the session stands cleared.
+    fn listed_place(&self, code: u16) -> Result<u8, Refusal>
+        ensures { result ≡ listed_place self.now code }
     {
         if !self.cleared {
             return Err(Refusal::NotCleared);
         }
-        let Some(place) = self.docket.place_of(code) else {
-            return Err(Refusal::NotListed);
-        };
-        Ok(self.table.position(place as u8))
+        self.place_of(code).ok_or(Refusal::NotListed)
+    }
+
+    // The position of a member: worth received minus worth paid, over kept records.
+    pub fn position(&self, code: u16) -> Result<i64, Refusal>
+        ensures { result ≡ position_answer self.now code }
+    {
+        let place = self.listed_place(code)?;
+        Ok(self.table.position(place))
     }
 
     // The position of one member towards another, seen from the first.
     pub fn bilateral(&self, a: u16, b: u16) -> Result<i64, Refusal>
         ensures { result ≡ bilateral_answer self.now a b }
     {
-        if !self.cleared {
-            return Err(Refusal::NotCleared);
-        }
-        let Some(first) = self.docket.place_of(a) else {
-            return Err(Refusal::NotListed);
-        };
-        let Some(second) = self.docket.place_of(b) else {
-            return Err(Refusal::NotListed);
-        };
-        Ok(self.table.bilateral(first as u8, second as u8))
+        let first = self.listed_place(a)?;
+        let second = self.listed_place(b)?;
+        Ok(self.table.bilateral(first, second))
     }
 
     // The cover that the last clearing stored for a member.
     pub fn cover(&self, code: u16) -> Result<u64, Refusal>
         ensures { result ≡ cover_answer self.now code }
     {
-        if !self.cleared {
-            return Err(Refusal::NotCleared);
-        }
-        let Some(place) = self.docket.place_of(code) else {
-            return Err(Refusal::NotListed);
-        };
-        Ok(self.covers.amount(place as u8))
+        let place = self.listed_place(code)?;
+        Ok(self.covers.amount(place))
     }
 }

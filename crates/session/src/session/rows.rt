@@ -1,11 +1,12 @@
 // The rows of an accepted file, judged and taken one by one.
-ghost use Rattle.std.specs.Prelude.{◌≡◌, ℕ, ◌+◌, ◌<◌, ◌≤◌, length};
+ghost use Rattle.std.specs.Prelude.{◌≡◌, ◌+◌, ◌<◌, ◌≤◌, IfOk, IsTrue, length};
+ghost use Rattle.session.specs.Parts.{docket_of, table_of};
 ghost use Rattle.rules.specs.Meaning.{Meaning};
 ghost use Rattle.session.specs.Ledger.{ledger_of, with_entries};
 ghost use Rattle.memberfile.specs.Walk.{rows_in};
 ghost use Rattle.session.specs.Files.{counted};
-ghost use Rattle.session.specs.Rows.{after_row, after_rows, entered, outcomes, can_return, is_cause, other_wrong, outcome_of, entries_by, presentation_taken, put_in, record_by, reference_used, return_taken, row_taken, same_sums, struck_in, wanted};
-ghost use Rattle.table.specs.Entries.{entries_of};
+ghost use Rattle.session.specs.Rows.{after_row, after_rows, entered, entries_by, is_cause, outcome_of, outcomes, presentation_taken, put_in, reference_used, return_taken, row_taken, same_sums, struck_in};
+ghost use Rattle.table.specs.Entries.{entries_of, is_within};
 ghost use Rattle.terms.specs.Dockets.{day_of};
 ghost use Rattle.wire.specs.Rows.{presentations, presented};
 
@@ -34,20 +35,10 @@ fn same_sums(entry: Entry, row: Return) -> bool
     entry.amount == row.amount && entry.commission == row.commission
 }
 
-// The outcome byte of a row: 0, or the number of its refusal.
-fn outcome_of(taken: Result<(), Refusal>) -> u8
-    ensures { result ≡ outcome_of taken }
-{
-    match taken {
-        Ok(()) => 0,
-        Err(refusal) => refusal.code(),
-    }
-}
-
 impl Session {
     // Whether the sender used the reference before, or it is 0.
     fn is_used(&self, sender: Sender, reference: u32) -> bool
-        ensures { result ≡ reference_used sender (entries_of self.now.table) reference }
+        ensures { result ≡ reference_used sender (entries_of (table_of self.now)) reference }
     {
         reference == 0 || self.table.find(sender.code, reference).is_some()
     }
@@ -59,28 +50,22 @@ impl Session {
         sender: Sender,
         p: Presentation,
     ) -> Result<Entry, Refusal>
-        requires { sender.place < 64 }
-        ensures { result ≡ presentation_taken (day_of self.now.docket) (I.Instrument.meaning instrument.now) sender (entries_of self.now.table) p }
+        ensures value { result ≡ presentation_taken (day_of (docket_of self.now)) (I.Instrument.meaning instrument.now) sender (entries_of (table_of self.now)) p }
+        ensures within { IfOk result (λ entry. IsTrue (is_within entry)) }
     {
-        let Some(other) = self.docket.place_of(p.other) else {
-            return Err(Refusal::OtherMember);
-        };
+        let other = self.place_of(p.other).ok_or(Refusal::OtherMember)?;
         if p.other == sender.code {
             return Err(Refusal::OtherMember);
         }
-        let worth = match instrument.admit(
+        let worth = instrument.admit(
             p.record_type,
             self.docket.currency(),
             p.amount,
             p.commission,
-        ) {
-            Ok(worth) => worth,
-            Err(denial) => return Err(denial.refusal()),
-        };
+        )?;
         if self.is_used(sender, p.reference) {
             return Err(Refusal::ReferenceUsed);
         }
-        let other = other as u8;
         let pays = instrument.origin_pays();
         Ok(Entry {
             record_type: p.record_type,
@@ -101,11 +86,12 @@ impl Session {
 impl Session {
     // The place of the record that a return takes back, or the row's code.
     fn judge_return(&self, sender: Sender, row: Return) -> Result<usize, Refusal>
-        ensures { result ≡ return_taken sender (entries_of self.now.table) row }
+        ensures { result ≡ return_taken sender (entries_of (table_of self.now)) row }
     {
-        let Some(at) = self.table.find(row.originator, row.reference) else {
-            return Err(Refusal::NoSuchRecord);
-        };
+        let at = self
+            .table
+            .find(row.originator, row.reference)
+            .ok_or(Refusal::NoSuchRecord)?;
         let Some(entry) = self.table.entry_at(at) else {
             unreachable()
         };
@@ -131,8 +117,7 @@ impl Session {
         sender: Sender,
         p: Presentation,
     ) -> Result<(), Refusal>
-        requires place { sender.place < 64 }
-        requires room { length (ledger_of self.old).entries < (ledger_of self.old).capacity }
+        requires { length (ledger_of self.old).entries < (ledger_of self.old).capacity }
         ensures outcome { outcome_of result ≡ outcome_of (presentation_taken (ledger_of self.old).day (I.Instrument.meaning instrument.now) sender (ledger_of self.old).entries p) }
         ensures ledger { ledger_of self.new ≡ with_entries (ledger_of self.old) (entries_by (ledger_of self.old).entries (put_in (ledger_of self.old).entries (presentation_taken (ledger_of self.old).day (I.Instrument.meaning instrument.now) sender (ledger_of self.old).entries p))) }
     {
@@ -151,47 +136,55 @@ impl Session {
         Ok(())
     }
 
-    // Judges a row, takes it where it has no code, and gives its outcome byte.
-    fn take_row<I: Instrument>(&mut self, instrument: &I, sender: Sender, row: Row) -> u8
-        requires place { sender.place < 64 }
-        requires room { length (ledger_of self.old).entries + presentations row ≤ (ledger_of self.old).capacity }
-        ensures outcome { result ≡ outcome_of (row_taken (ledger_of self.old).day (I.Instrument.meaning instrument.now) sender (ledger_of self.old).entries row) }
+    // Judges a row and takes it where it has no code.
+    #[tactic(auto, using(crate::proofs::Going::outcome_put, crate::proofs::Going::outcome_struck))]
+    fn take_row<I: Instrument>(
+        &mut self,
+        instrument: &I,
+        sender: Sender,
+        row: Row,
+    ) -> Result<(), Refusal>
+        requires { length (ledger_of self.old).entries + presentations row ≤ (ledger_of self.old).capacity }
+        ensures outcome { outcome_of result ≡ outcome_of (row_taken (ledger_of self.old).day (I.Instrument.meaning instrument.now) sender (ledger_of self.old).entries row) }
         ensures ledger { ledger_of self.new ≡ with_entries (ledger_of self.old) (after_row (ledger_of self.old).day (I.Instrument.meaning instrument.now) sender (ledger_of self.old).entries row) }
     {
         match row {
-            Row::Presentation(p) => outcome_of(self.take_presentation(instrument, sender, p)),
-            Row::Return(r) => outcome_of(self.take_return(sender, r)),
+            Row::Presentation(p) => self.take_presentation(instrument, sender, p),
+            Row::Return(r) => self.take_return(sender, r),
         }
     }
 
-    // Takes the rows that are left, one outcome byte for each.
+    // Takes the rows of a file, one outcome byte for each: 0, or the number of its refusal.
     pub(crate) fn take_rows<I: Instrument>(
         &mut self,
         instrument: &I,
         sender: Sender,
-        rows: Rows,
+        file: &[u8],
         out: &mut [u8],
     ) -> Taken
-        requires place { sender.place < 64 }
-        requires held { length (ledger_of self.old).entries + presented (rows_in rows.rest.now) ≤ (ledger_of self.old).capacity }
-        requires room { length (rows_in rows.rest.now) ≤ length out.old }
-        ensures counts { result ≡ counted (outcomes (ledger_of self.old).day (I.Instrument.meaning instrument.now) sender (ledger_of self.old).entries (rows_in rows.entry.rest.now)) }
-        ensures ledger { ledger_of self.new ≡ with_entries (ledger_of self.old) (after_rows (ledger_of self.old).day (I.Instrument.meaning instrument.now) sender (ledger_of self.old).entries (rows_in rows.entry.rest.now)) }
-        ensures out { out.new ≡ entered (ledger_of self.old).day (I.Instrument.meaning instrument.now) sender (ledger_of self.old).entries (rows_in rows.entry.rest.now) out.old }
+        requires held { length (ledger_of self.old).entries + presented (rows_in file.now) ≤ (ledger_of self.old).capacity }
+        requires room { length (rows_in file.now) ≤ length out.old }
+        ensures counts { result ≡ counted (outcomes (ledger_of self.old).day (I.Instrument.meaning instrument.now) sender (ledger_of self.old).entries (rows_in file.now)) }
+        ensures ledger { ledger_of self.new ≡ with_entries (ledger_of self.old) (after_rows (ledger_of self.old).day (I.Instrument.meaning instrument.now) sender (ledger_of self.old).entries (rows_in file.now)) }
+        ensures out { out.new ≡ entered (ledger_of self.old).day (I.Instrument.meaning instrument.now) sender (ledger_of self.old).entries (rows_in file.now) out.old }
     {
-        let mut at = 0;
-        let mut taken = 0;
-        for row in rows {
-            let outcome = self.take_row(instrument, sender, row);
-            out[at] = outcome;
-            at += 1;
-            if outcome == 0 {
-                taken += 1;
+        let mut counts = Taken {
+            taken: 0,
+            turned_away: 0,
+        };
+        // No `zip` with `out.iter_mut()`: behind such an adapter a proof knows nothing of what was written.
+        for (at, row) in Rows::new(file).enumerate() {
+            match self.take_row(instrument, sender, row) {
+                Ok(()) => {
+                    out[at] = 0;
+                    counts.taken += 1;
+                }
+                Err(refusal) => {
+                    out[at] = u8::from(refusal);
+                    counts.turned_away += 1;
+                }
             }
         }
-        Taken {
-            taken,
-            turned_away: at - taken,
-        }
+        counts
     }
 }

@@ -1,6 +1,6 @@
 // Taking entries in, finding them and returning them.
 ghost use Rattle.std.specs.Prelude.{◌≡◌, ◌≤◌, min, ◌&&◌, [], ◌∷◌, ◌++◌, length, if◌then◌else◌, vec_len, nat_lt};
-ghost use Rattle.table.specs.Entries.{entries_of, entry_in, is_record, is_within, record_in, struck};
+ghost use Rattle.table.specs.Entries.{capacity_of, entries_of, entry_in, held_of, is_record, is_within, record_in, struck};
 
 use crate::index::{Index, bucket_of};
 use crate::table::Table;
@@ -14,8 +14,8 @@ const WORTH_MOST: u32 = 100_000_000;
 fn is_within(entry: Entry) -> bool
     ensures { result ≡ is_within entry }
 {
-    (entry.payer as usize) < MEMBERS
-        && (entry.receiver as usize) < MEMBERS
+    usize::from(entry.payer) < MEMBERS
+        && usize::from(entry.receiver) < MEMBERS
         && entry.worth <= WORTH_MOST
 }
 
@@ -30,7 +30,7 @@ impl Table {
     // An empty table over the places, of which the first 4,096 at most are its capacity.
     pub fn new(places: Vec<Place>) -> Table
         ensures entries { entries_of result ≡ [] }
-        ensures capacity { result.capacity ≡ min (vec_len places) 4096 }
+        ensures capacity { capacity_of result ≡ min (vec_len places) 4096 }
     {
         let capacity = places.len().min(CAPACITY);
         Table {
@@ -44,7 +44,7 @@ impl Table {
     // How many entries were taken in.
     pub fn held(&self) -> usize
         ensures value { result ≡ length (entries_of self.now) }
-        ensures field { result ≡ self.now.held }
+        ensures field { result ≡ held_of self.now }
         ensures few { result ≤ 4096 }
     {
         self.held
@@ -52,7 +52,7 @@ impl Table {
 
     // How many entries can be taken in.
     pub fn capacity(&self) -> usize
-        ensures value { result ≡ self.now.capacity }
+        ensures value { result ≡ capacity_of self.now }
         ensures few { result ≤ 4096 }
     {
         self.capacity
@@ -62,18 +62,14 @@ impl Table {
     pub fn entry_at(&self, at: usize) -> Option<Entry>
         ensures { result ≡ entry_in (entries_of self.now) at }
     {
-        if at < self.held {
-            Some(self.places[at].entry)
-        } else {
-            None
-        }
+        self.places[..self.held].get(at).map(|place| place.entry)
     }
 
     // Puts an entry behind the others; false where it is out of limits or the table is full.
     pub fn put(&mut self, entry: Entry) -> bool
-        ensures answer { result ≡ (is_within entry && nat_lt (length (entries_of self.old)) self.old.capacity) }
+        ensures answer { result ≡ (is_within entry && nat_lt (length (entries_of self.old)) (capacity_of self.old)) }
         ensures entries { entries_of self.new ≡ (if result then entries_of self.old ++ (entry ∷ []) else entries_of self.old) }
-        ensures capacity { self.new.capacity ≡ self.old.capacity }
+        ensures capacity { capacity_of self.new ≡ capacity_of self.old }
     {
         let held = self.held;
         if !is_within(entry) || held >= self.capacity {
@@ -92,13 +88,12 @@ impl Table {
         ensures { result ≡ record_in (entries_of self.now) origin reference }
     {
         let mut found = None;
-        let mut next = self.index.heads[bucket_of(origin, reference)] as usize;
-        while next > 0 {
-            let at = next - 1;
+        let mut next = self.index.last_in(bucket_of(origin, reference));
+        while let Some(at) = next {
             if is_record(self.places[at].entry, origin, reference) {
                 found = Some(at);
             }
-            next = self.index.links[at] as usize;
+            next = self.index.previous(at);
         }
         found
     }
@@ -106,7 +101,7 @@ impl Table {
     // Returns the entry at a place; where none stands nothing changes.
     pub fn strike(&mut self, at: usize)
         ensures entries { entries_of self.new ≡ struck (entries_of self.old) at }
-        ensures capacity { self.new.capacity ≡ self.old.capacity }
+        ensures capacity { capacity_of self.new ≡ capacity_of self.old }
     {
         if at < self.held {
             self.places[at].entry.returned = true;

@@ -2,7 +2,7 @@
 ghost use Rattle.clearing.specs.Positions.{bilateral as bilateral_of, position as position_of};
 ghost use Rattle.clearing.specs.Sheets.{SheetOf};
 ghost use Rattle.clearing.specs.Table.{Cleared, cover_of};
-ghost use Rattle.table.specs.Entries.{entries_of, held_places, kept_of};
+ghost use Rattle.table.specs.Entries.{capacity_of, entries_of, held_places, kept_of};
 ghost use Rattle.std.specs.Prelude.{◌≡◌};
 
 use crate::table::Table;
@@ -15,7 +15,7 @@ impl Table {
     // Keeps the greatest lawful covered choice, and answers how many live entries it withdrew.
     pub fn clear<R: Ranking>(&mut self, rule: &R, covers: &Covers) -> usize
         ensures cleared { Cleared (R.Ranking.ahead rule.now) (cover_of covers.now) (held_places self.old) (held_places self.new) result }
-        ensures capacity { self.new.capacity ≡ self.old.capacity }
+        ensures capacity { capacity_of self.new ≡ capacity_of self.old }
     {
         let held = self.held;
         netting::clear(rule, covers, &mut self.places, held)

@@ -6,7 +6,7 @@ ghost use Rattle.terms.specs.Rolls.{is_roll, place_in};
 use crate::currency::Currency;
 use crate::cycle::Cycle;
 use crate::date::is_day;
-use crate::docket::roll::{CODE_MOST, is_roll, place_in};
+use crate::docket::roll::{is_roll, place_in};
 use crate::docket::{Docket, HINTS, ROLL_MOST};
 use crate::refusal::Refusal;
 
@@ -25,8 +25,8 @@ fn hints_of(roll: &[u16]) -> [u8; HINTS]
     requires { is_roll roll.now ≡ true }
 {
     let mut hints = [0; HINTS];
-    for i in 0..roll.len() {
-        hints[roll[i] as usize] = i as u8;
+    for (place, code) in roll.iter().enumerate() {
+        hints[usize::from(*code)] = place as u8;
     }
     hints
 }
@@ -56,12 +56,8 @@ impl Docket {
         if !is_roll(roll) {
             return Err(Refusal::RollRule);
         }
-        let Some(cycle) = Cycle::of(cycle) else {
-            return Err(Refusal::DocketValue);
-        };
-        let Some(currency) = Currency::of(currency) else {
-            return Err(Refusal::DocketValue);
-        };
+        let cycle = Cycle::try_from(cycle).map_err(|_| Refusal::DocketValue)?;
+        let currency = Currency::try_from(currency).map_err(|_| Refusal::DocketValue)?;
         if !is_day(date) {
             return Err(Refusal::DocketValue);
         }
@@ -112,11 +108,9 @@ impl Docket {
 
     // Where on the roll to look first for a code; 0 serves for a number that is no code.
     fn hint(&self, code: u16) -> usize {
-        if code <= CODE_MOST {
-            self.hints[code as usize] as usize
-        } else {
-            0
-        }
+        self.hints
+            .get(usize::from(code))
+            .map_or(0, |hint| usize::from(*hint))
     }
 
     // The place of a member on the roll, from 0. A code stands on it once, so where the hint finds it is its place.

@@ -32,10 +32,5 @@ pub fn is_roll(codes: &[u16]) -> bool
 pub fn place_in(roll: &[u16], code: u16) -> Option<usize>
     ensures { result ≡ place_in roll.now code }
 {
-    for i in 0..roll.len() {
-        if roll[i] == code {
-            return Some(i);
-        }
-    }
-    None
+    roll.iter().position(|member| *member == code)
 }

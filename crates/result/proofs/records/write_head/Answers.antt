@@ -1,7 +1,7 @@
-use Rattle.std.proofs.Common.{◌∙◌}
-use Rattle.pen.proofs.Lent.{wrote_more}
+use Rattle.std.proofs.Common.{[], ◌∷◌, sym, ap}
+use Rattle.wire.specs.Bytes.{in_bytes}
+use Rattle.pen.proofs.Lent.{wrote_as, wrote_more}
 use Rattle.result.proofs.records.write_head.Goals as goal
 
 pub returns : goal.returns
-returns c =
-    record { name = c.u16.ensures.name ∙ c.u8.ensures.name; wrote = wrote_more c.u8.ensures.wrote c.u16.ensures.wrote }
+returns c = record { name = cc; wrote = wrote_more (wrote_as (ap (λ b. b ∷ []) (sym c.tag.ensures)) c.put.ensures.wrote) (wrote_as (ap (in_bytes 2) (sym c.width.ensures)) c.put-2.ensures.wrote) }

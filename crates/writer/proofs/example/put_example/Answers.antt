@@ -19,9 +19,9 @@ returns c =
     let old = c.args.out.now in
     let room = bound (length old) in
     let file = opened room example_file.header in
-    let batch = c.open_batch-batch.ensures file old c.open.ensures in
+    let batch = c.open_batch-batch.ensures.stands file old c.open.ensures.stands in
     let filled = c.put.ensures.stands (started room file 1) old batch in
-    let done = c.finish.ensures _ old (c.close.ensures _ old filled) in
+    let done = c.finish.ensures.done _ old (c.close.ensures.stands _ old filled) in
     record {
       done = done;
       whole = λ h. subst (λ (d : FileDraft). Done d old c.finish.result.bytes.now c.finish.result.len) (whole room (le-min h (lit≤ tt))) done;

@@ -1,13 +1,24 @@
-use Rattle.std.proofs.Common.{◌≡◌, length, get_or, pos, ◌-ℤ◌, sym, arith, rules}
-use Rattle.std.proofs.lemmas.List.{get_or_past}
+use Rattle.std.proofs.Common.{rules}
+use Rattle.clearing.proofs.Sides.{read_low}
 use Rattle.clearing.proofs.sheet.Sheet.position.Goals as goal
 
-pub returns-else-member-lt-MEMBERS : goal.returns-else-member-lt-MEMBERS
-returns-else-member-lt-MEMBERS c =
+pub overflow_cast-result : goal.overflow_cast-result
+overflow_cast-result c =
     let s = c.args.self.now in
-    let m = c.args.member in
-    let long_received : length s.received ≡ 64 = search rules in
-    let long_paid : length s.paid ≡ 64 = search rules in
-    let received : get_or s.received m 0 ≡ 0 = get_or_past s.received m 0 (omega arith) in
-    let paid : get_or s.paid m 0 ≡ 0 = get_or_past s.paid m 0 (omega arith) in
-    sym (λ i. pos (received i) -ℤ pos (paid i))
+    let l = c.in-Some.ensures.lookup in
+    let low = read_low s.balances.by_member 409_600_000_000 (search rules) s.payments s.receipts c.from.result c.in-Some.balance.now l.3.0 l.1 in
+    search rules
+
+pub overflow_cast-result-in-Some : goal.overflow_cast-result-in-Some
+overflow_cast-result-in-Some c =
+    let s = c.args.self.now in
+    let l = c.in-Some.ensures.lookup in
+    let low = read_low s.balances.by_member 409_600_000_000 (search rules) s.payments s.receipts c.from.result c.in-Some.balance.now l.3.0 l.1 in
+    search rules
+
+pub overflow_sub-result : goal.overflow_sub-result
+overflow_sub-result c =
+    let s = c.args.self.now in
+    let l = c.in-Some.ensures.lookup in
+    let low = read_low s.balances.by_member 409_600_000_000 (search rules) s.payments s.receipts c.from.result c.in-Some.balance.now l.3.0 l.1 in
+    search rules

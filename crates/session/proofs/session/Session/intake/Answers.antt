@@ -1,10 +1,6 @@
-use Rattle.std.proofs.Common.{length, Ok, Err, refl, ap, ◌∙◌, arith}
+use Rattle.std.proofs.Common.{length, get_or, set, Ok, Err, refl, ap, ◌∙◌}
 use Rattle.std.proofs.lemmas.Result.{err_from_is_err_and}
-use Rattle.memberfile.specs.Walk.{rows_in}
-use Rattle.wire.specs.Rows.{presented}
-use Rattle.session.specs.Files.{counted}
-use Rattle.session.specs.Ledger.{ledger_of, with_entries}
-use Rattle.session.specs.Rows.{after_rows, entered, outcomes}
+use Rattle.session.specs.Ledger.{ledger_of, numbered}
 use Rattle.session.proofs.Admits.{fits, held, refused_answer, refused_ledger, refused_out, refused_stood, taken_answer, taken_ledger, taken_out, taken_stood, unadmitted, unchecked}
 use Rattle.session.proofs.session.Session.intake.Goals as goal
 
@@ -32,7 +28,7 @@ returns-in_err-sender g c =
     let bs = c.args.file.now in
     let n = length c.args.out.now in
     let p = err_from_is_err_and c.from_residual-in_err-sender.result c.from_residual-in_err-sender.ensures.1 in
-    let v = unadmitted l m bs n c.in_ok-summary.summary _ c.in_ok-summary.ensures c.in_err-sender.ensures.sender in
+    let v = unadmitted l m bs n c.in_ok-summary.summary _ c.in_ok-summary.ensures c.in_err-sender.ensures in
     record {
       answer = p.1 ∙ ap Err p.2 ∙ refused_answer l m bs n _ v;
       ledger = refused_ledger l m bs n _ v;
@@ -47,11 +43,9 @@ take_rows-taken-requires g c =
     let bs = c.args.file.now in
     let n = length c.args.out.now in
     let sum = c.in_ok-summary.summary in
-    let rows = ap rows_in c.new.ensures in
     record {
-      place = c.in_ok-sender.ensures.place;
-      held = omega (arith, held l m bs n sum c.in_ok-sender.sender c.in_ok-summary.ensures c.in_ok-sender.ensures.sender, ap presented rows);
-      room = omega (arith, fits l m bs n sum c.in_ok-sender.sender c.in_ok-summary.ensures c.in_ok-sender.ensures.sender, ap length rows);
+      held = held l m bs n sum c.in_ok-sender.sender c.in_ok-summary.ensures c.in_ok-sender.ensures;
+      room = fits l m bs n sum c.in_ok-sender.sender c.in_ok-summary.ensures c.in_ok-sender.ensures;
     }
 
 pub returns : goal.returns
@@ -64,12 +58,12 @@ returns g c =
     let sum = c.in_ok-summary.summary in
     let from = c.in_ok-sender.sender in
     let je = c.in_ok-summary.ensures in
-    let ae = c.in_ok-sender.ensures.sender in
-    let rows = ap rows_in c.new.ensures in
+    let ae = c.in_ok-sender.ensures in
     let did = c.take_rows-taken.ensures in
+    let nums = c.take_rows-taken.new.self.numbers in
     record {
-      answer = ap Ok (did.counts ∙ ap (λ rs. counted (outcomes l.day m from l.entries rs)) rows) ∙ taken_answer l m bs n sum from je ae;
-      ledger = taken_ledger l m bs n sum from je ae c.take_rows-taken.new.self _ (did.ledger ∙ ap (λ rs. with_entries l (after_rows l.day m from l.entries rs)) rows) c.enter.ensures.presentations c.enter.ensures.returns;
-      out = did.out ∙ ap (λ rs. entered l.day m from l.entries rs c.args.out.now) rows ∙ taken_out l m bs n sum from je ae c.args.out.now;
+      answer = ap Ok did.counts ∙ taken_answer l m bs n sum from je ae;
+      ledger = taken_ledger l m bs n sum from je ae c.take_rows-taken.new.self did.ledger _ _ (ap (set nums c.sender.inside.place) c.enter.ensures ∙ ap (λ q. set nums q (numbered sum.header.kind sum.header.number (get_or nums q _))) (ap (λ x. x.place) c.sender.view_is));
+      out = did.out ∙ taken_out l m bs n sum from je ae c.args.out.now;
       stood = taken_stood l m bs n sum from je ae s _ refl;
     }

@@ -3,7 +3,7 @@ use lib.Seq.{take-length}
 use Rattle.terms.proofs.Rolls.{roll_facts}
 use Rattle.terms.proofs.docket.fill.hints_of.Goals as goal
 
-pub bounds-hints-roll : goal.bounds-hints-roll
-bounds-hints-roll c =
+pub bounds-hints-from : goal.bounds-hints-from
+bounds-hints-from c =
     let roll = c.args.roll.now in
-    omega (arith, (roll_facts roll roll (take-length roll) c.requires).last c.loop-i.i c.loop-i-test.true)
+    omega (arith, (roll_facts roll roll (take-length roll) c.requires).last c.loop-place.place c.loop-place-test.true)
