@@ -5,75 +5,87 @@ ghost use Rattle.std.specs.Prelude.{◌≡◌};
 use thiserror::Error;
 
 #[derive(Clone, Copy, Debug, PartialEq, Eq, Error)]
+#[error("{}", self.words())]
 pub enum Refusal {
-    #[error("the roll must hold 2 to 64 rising member codes from 1 to 999")]
     RollRule,
-    #[error("date, cycle or currency is out of range")]
     DocketValue,
-    #[error("the file is longer than 65,535 bytes")]
     FileTooLong,
-    #[error("fewer than 3 bytes are left where a record must begin")]
     HeadCut,
-    #[error("the tag is unknown")]
     UnknownTag,
-    #[error("the length is not that of the tag")]
     WrongLength,
-    #[error("the value runs past the end of the file")]
     ValueCut,
-    #[error("the record is out of order")]
     OutOfOrder,
-    #[error("batch kind or row tag is not that of the file kind")]
     WrongKind,
-    #[error("the batch number is not above the last, or the batch end names another")]
     BatchNumber,
-    #[error("a total or the number of batches differs")]
     TotalDiffers,
-    #[error("a value of the file header is out of range")]
     HeaderValue,
-    #[error("date, cycle or currency is not that of the session")]
     NotThisSession,
-    #[error("the origin is not on the roll")]
     OriginOffRoll,
-    #[error("the file number is not one above the last accepted")]
     FileNumber,
-    #[error("the instrument takes no returns")]
     ReturnsNotTaken,
-    #[error("the presentations exceed the places left in the session")]
     CapacityExceeded,
-    #[error("the outcome buffer is shorter than the rows")]
     OutcomesShort,
-    #[error("the other member is off the roll or is the origin")]
     OtherMember,
-    #[error("the type is not one of the instrument")]
     RecordType,
-    #[error("amount or commission is not admitted")]
     NotAdmitted,
-    #[error("the reference is 0 or already used by this origin")]
     ReferenceUsed,
-    #[error("no such record was sent to this origin, or its instrument takes no returns")]
     NoSuchRecord,
-    #[error("the record is already returned")]
     AlreadyReturned,
-    #[error("amount or commission differs from the record")]
     ReturnDiffers,
-    #[error("the cause is not 1 to 20, or is 12")]
     ReturnCause,
-    #[error("code or value of the report is out of limits")]
     ReportLimits,
-    #[error("64 codes are reported already")]
     TooManyReports,
-    #[error("the session is not cleared")]
     NotCleared,
-    #[error("the code is off the roll, or there is no such number")]
     NotListed,
-    #[error("the result is longer than the buffer")]
     BufferShort,
-    #[error("a header value is out of range, or the batch number is not above the last")]
     WriterValue,
-    #[error("there is no space for this record and the ends still due")]
     WriterSpace,
-    #[error("the record is not of the file kind")]
     WriterKind,
+}
+
+impl Refusal {
+    // The rule in words, for a clerk; what it shows as an error.
+    pub fn words(self) -> &'static str {
+        match self {
+            Refusal::RollRule => "the roll must hold 2 to 64 rising member codes from 1 to 999",
+            Refusal::DocketValue => "date, cycle or currency is out of range",
+            Refusal::FileTooLong => "the file is longer than 65,535 bytes",
+            Refusal::HeadCut => "fewer than 3 bytes are left where a record must begin",
+            Refusal::UnknownTag => "the tag is unknown",
+            Refusal::WrongLength => "the length is not that of the tag",
+            Refusal::ValueCut => "the value runs past the end of the file",
+            Refusal::OutOfOrder => "the record is out of order",
+            Refusal::WrongKind => "batch kind or row tag is not that of the file kind",
+            Refusal::BatchNumber =>
+                "the batch number is not above the last, or the batch end names another",
+            Refusal::TotalDiffers => "a total or the number of batches differs",
+            Refusal::HeaderValue => "a value of the file header is out of range",
+            Refusal::NotThisSession => "date, cycle or currency is not that of the session",
+            Refusal::OriginOffRoll => "the origin is not on the roll",
+            Refusal::FileNumber => "the file number is not one above the last accepted",
+            Refusal::ReturnsNotTaken => "the instrument takes no returns",
+            Refusal::CapacityExceeded => "the presentations exceed the places left in the session",
+            Refusal::OutcomesShort => "the outcome buffer is shorter than the rows",
+            Refusal::OtherMember => "the other member is off the roll or is the origin",
+            Refusal::RecordType => "the type is not one of the instrument",
+            Refusal::NotAdmitted => "amount or commission is not admitted",
+            Refusal::ReferenceUsed => "the reference is 0 or already used by this origin",
+            Refusal::NoSuchRecord =>
+                "no such record was sent to this origin, or its instrument takes no returns",
+            Refusal::AlreadyReturned => "the record is already returned",
+            Refusal::ReturnDiffers => "amount or commission differs from the record",
+            Refusal::ReturnCause => "the cause is not 1 to 20, or is 12",
+            Refusal::ReportLimits => "code or value of the report is out of limits",
+            Refusal::TooManyReports => "64 codes are reported already",
+            Refusal::NotCleared => "the session is not cleared",
+            Refusal::NotListed => "the code is off the roll, or there is no such number",
+            Refusal::BufferShort => "the result is longer than the buffer",
+            Refusal::WriterValue =>
+                "a header value is out of range, or the batch number is not above the last",
+            Refusal::WriterSpace => "there is no space for this record and the ends still due",
+            Refusal::WriterKind => "the record is not of the file kind",
+        }
+    }
 }
 
 // The number that answers carry for it.
