@@ -1,7 +1,8 @@
 -- A sheet as it is added up, entry by entry.
 use Rattle.std.proofs.Common.{◌≡◌, ℕ, ◌+◌, ◌≤◌, Bool, true, false, cond, not, ◌&&◌, List, length, sym, refl, ap, ◌∙◌, arith}
 use Rattle.std.proofs.lemmas.Bool.{and_right}
-use Rattle.clearing.specs.Balances.{dues, means, raised}
+use Rattle.clearing.specs.Balances.{raised}
+use Rattle.clearing.specs.Sums.{dues, means}
 use Rattle.clearing.specs.Choices.{Choice, entry_at, left_out, live, payer_of, receiver_of, size, up_to}
 use Rattle.clearing.specs.Sheets.{SheetOf}
 use Rattle.clearing.specs.declared.balances.Balance.{Balance}

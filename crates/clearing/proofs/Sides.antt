@@ -6,7 +6,8 @@ use Rattle.std.proofs.lemmas.Bool.{cases_lt}
 use Rattle.std.specs.List.{AllWithin, HoldsAt}
 use Rattle.std.specs.Option.{MatchOption}
 use Rattle.std.specs.Prelude.{Option, Some, None}
-use Rattle.clearing.specs.Balances.{SomeShort, dues, means}
+use Rattle.clearing.specs.Balances.{SomeShort}
+use Rattle.clearing.specs.Sums.{dues, means}
 use Rattle.clearing.specs.declared.balances.Balance.{Balance}
 
 module _ (bs : List Balance) where

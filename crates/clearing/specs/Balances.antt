@@ -1,18 +1,12 @@
 -- What the members are to pay of the kept entries and what they have to pay it from, and the last entry of a member.
-use Rattle.std.specs.Prelude.{◌≡◌, ℕ, ◌+◌, ◌-◌, ◌<◌, ◌≤◌, true, false, List, map, length, ◌≢◌, Option, MatchOption, slice_index, slice_set}
+use Rattle.std.specs.Prelude.{◌≡◌, ℕ, ◌+◌, ◌-◌, ◌<◌, ◌≤◌, true, false, List, length, ◌≢◌, Option, MatchOption, slice_index, slice_set}
 use Rattle.rules.specs.Order.{Order}
 use Rattle.clearing.specs.Choices.{Choice, entry_at, key_at, paid, received}
+use Rattle.clearing.specs.Sums.{dues, means}
 use Rattle.clearing.specs.Table.{entries, kept}
 use Rattle.clearing.specs.declared.balances.Balance.{Balance}
 use Rattle.clearing.specs.declared.entry.Entry.{Entry}
 use Rattle.clearing.specs.declared.place.Place.{Place}
-
--- what each member is to pay, and what it has to pay it from
-abbrev pub dues : List Balance → List ℕ
-dues bs = map (λ b. b.due) bs
-
-abbrev pub means : List Balance → List ℕ
-means bs = map (λ b. b.funds) bs
 
 -- each member's payments, and its cover with its receipts
 pub record Balanced (cover : ℕ → ℕ) (es : List Entry) (C : Choice) (due funds : List ℕ) : Type 0 where

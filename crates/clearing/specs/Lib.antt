@@ -1,5 +1,6 @@
 pub mod Choices
 pub mod Table
+pub mod Sums
 pub mod Balances
 pub mod Positions
 pub mod Sheets

@@ -1,6 +1,6 @@
 -- Sheets: what each member has paid and received over a choice of entries, and how many live entries it leaves out.
 use Rattle.std.specs.Prelude.{◌≡◌, ℕ, ◌<◌, List, ℤ, pos, ◌-ℤ◌, slice_index}
-use Rattle.clearing.specs.Balances.{dues, means}
+use Rattle.clearing.specs.Sums.{dues, means}
 use Rattle.clearing.specs.Choices.{Choice, left_out, paid, received, size}
 use Rattle.clearing.specs.declared.entry.Entry.{Entry}
 use Rattle.clearing.specs.declared.sheet.Sheet.{Sheet}

@@ -1,6 +1,7 @@
 // What each member is to pay of the kept entries, and what it has to pay it from.
 ghost use Rattle.std.specs.Prelude.{◌≡◌, ℕ, ◌+◌, ◌^◌, ◌<◌, ◌≤◌, T, slice_index, nat_lt};
-ghost use Rattle.clearing.specs.Balances.{Short, SomeShort, dues, lowered, means, raised};
+ghost use Rattle.clearing.specs.Balances.{Short, SomeShort, lowered, raised};
+ghost use Rattle.clearing.specs.Sums.{dues, means};
 ghost use Rattle.clearing.specs.Table.{cover_of};
 
 use crate::covers::Covers;

@@ -1,6 +1,7 @@
 // The clearing: all live entries are kept at first, and while a member is short, its last kept entry is withdrawn.
 ghost use Rattle.std.specs.Prelude.{◌≡◌, ℕ, ◌+◌, ◌<◌, ◌≤◌, min, false, length, drop, pos, IfSome, slice_index, slice_set};
-ghost use Rattle.clearing.specs.Balances.{Balanced, LastKept, Without, dues, lowered, means};
+ghost use Rattle.clearing.specs.Balances.{Balanced, LastKept, Without, lowered};
+ghost use Rattle.clearing.specs.Sums.{dues, means};
 ghost use Rattle.clearing.specs.Choices.{Choice, NowhereElse, entry_at, live, paid, received};
 ghost use Rattle.clearing.specs.Lanes.{AllLaned};
 ghost use Rattle.clearing.specs.Positions.{position, signed_up_to};

@@ -1,6 +1,6 @@
 // The sheet of a clearing: what each member has paid and received over the kept entries, and how many live entries were withdrawn.
 ghost use Rattle.std.specs.Prelude.{ℕ, ◌<◌, ◌≤◌, slice_index};
-ghost use Rattle.clearing.specs.Balances.{dues, means};
+ghost use Rattle.clearing.specs.Sums.{dues, means};
 
 use crate::balances::Balances;
 

@@ -1,6 +1,7 @@
 use Rattle.std.proofs.Common.{◌≡◌, ℕ, List, length, sym, refl, ◌∙◌, subst, arith, rules}
 use Rattle.std.specs.Prelude.{Option, Some, None, IfSome, IsSome, MatchOption}
-use Rattle.clearing.specs.Balances.{LastKept, Without, dues, means}
+use Rattle.clearing.specs.Balances.{LastKept, Without}
+use Rattle.clearing.specs.Sums.{dues, means}
 use Rattle.clearing.specs.Choices.{Choice, entry_at, left_out, payer_of, receiver_of}
 use Rattle.clearing.specs.Lanes.{AllLaned, Laned}
 use Rattle.clearing.specs.Table.{entries, kept, cover_of}

@@ -1,6 +1,6 @@
 use Rattle.std.proofs.Common.{◌≡◌}
 use Rattle.std.specs.Prelude.{IfSome}
-use Rattle.clearing.specs.Balances.{dues, means}
+use Rattle.clearing.specs.Sums.{dues, means}
 use Rattle.clearing.specs.Choices.{size}
 use Rattle.clearing.specs.Lanes.{AllLaned}
 use Rattle.clearing.specs.Table.{entries, kept, cover_of}

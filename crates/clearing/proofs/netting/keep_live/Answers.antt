@@ -1,5 +1,5 @@
 use Rattle.std.proofs.Common.{◌≡◌, ◌<◌, List, length, get_or, sym, refl, ap, ◌∙◌, arith, rules}
-use Rattle.clearing.specs.Balances.{dues, means}
+use Rattle.clearing.specs.Sums.{dues, means}
 use Rattle.clearing.specs.Choices.{entry_at, live, is_live, payer_of, receiver_of}
 use Rattle.clearing.specs.Table.{entries, cover_of}
 use Rattle.clearing.specs.declared.balances.Balances.{Balances}

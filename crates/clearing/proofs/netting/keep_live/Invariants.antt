@@ -1,5 +1,5 @@
 use Rattle.std.proofs.Common.{◌≡◌, ℕ, ◌<◌}
-use Rattle.clearing.specs.Balances.{dues, means}
+use Rattle.clearing.specs.Sums.{dues, means}
 use Rattle.clearing.specs.Choices.{live, payer_of, receiver_of}
 use Rattle.clearing.specs.Table.{entries, kept, cover_of}
 use Rattle.clearing.proofs.Tallied.{Tallied}

@@ -1,5 +1,6 @@
 use Rattle.std.proofs.Common.{◌+◌, ◌∙◌, rules}
-use Rattle.clearing.specs.Balances.{dues, raised, means}
+use Rattle.clearing.specs.Balances.{raised}
+use Rattle.clearing.specs.Sums.{dues, means}
 use Rattle.clearing.proofs.Sides.{dues_changed, means_changed}
 use Rattle.clearing.proofs.balances.Balances.add.Goals as goal
 

@@ -1,6 +1,6 @@
 use Rattle.std.proofs.Common.{◌≡◌, ℕ, ◌<◌, ◌≢◌, List, length, get_or, set, refl, ap, ◌∙◌, arith, length-set, below_more}
 use Rattle.std.proofs.lemmas.List.{get_or-set_same, get_or-set_other, map-set}
-use Rattle.clearing.specs.Balances.{means}
+use Rattle.clearing.specs.Sums.{means}
 use Rattle.clearing.specs.declared.balances.Balance.{Balance}
 use Rattle.clearing.proofs.Sides.{dues_kept, means_long, none_due}
 use Rattle.clearing.proofs.balances.Balances.of.Goals as goal

@@ -1,5 +1,5 @@
 use Rattle.std.proofs.Common.{◌≡◌, ℕ, ◌<◌, length, get_or}
-use Rattle.clearing.specs.Balances.{dues, means}
+use Rattle.clearing.specs.Sums.{dues, means}
 use Rattle.clearing.proofs.balances.Balances.of.Given as goal
 
 abbrev pub invariant-loop-m : goal.invariant-loop-m

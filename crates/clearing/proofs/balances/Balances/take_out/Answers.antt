@@ -1,5 +1,6 @@
 use Rattle.std.proofs.Common.{◌-◌, ◌∙◌, rules}
-use Rattle.clearing.specs.Balances.{dues, lowered, means}
+use Rattle.clearing.specs.Balances.{lowered}
+use Rattle.clearing.specs.Sums.{dues, means}
 use Rattle.clearing.proofs.Sides.{dues_changed, means_changed}
 use Rattle.clearing.proofs.balances.Balances.take_out.Goals as goal
 

@@ -1,5 +1,5 @@
 use Rattle.std.proofs.Common.{◌≡◌, ℕ, Bool, true, false, cond, List, length, sym, ap, ◌∙◌, subst, arith, rules}
-use Rattle.clearing.specs.Balances.{dues, means}
+use Rattle.clearing.specs.Sums.{dues, means}
 use Rattle.clearing.specs.Choices.{entry_at, is_live, live, payer_of, receiver_of}
 use Rattle.clearing.specs.Table.{entries, kept}
 use Rattle.clearing.specs.declared.balances.Balances.{Balances}
