@@ -1,6 +1,6 @@
 -- What is written piece by piece is written as one piece, and what a lent part holds stands in the whole.
-use Rattle.std.proofs.Common.{◌≡◌, ℕ, ◌+◌, ◌-◌, ◌≤◌, List, [], ◌++◌, length, take, drop, sym, refl, ap, ◌∙◌, subst, append_assoc, append-nil, add_assoc, arith, length-append, length-drop, length-take-le, take_all, drop-drop}
-use lib.Seq.{drop-append-add, take-append_seam}
+use Rattle.std.proofs.Common.{◌≡◌, ℕ, ◌+◌, ◌-◌, ◌≤◌, List, [], ◌++◌, length, take, drop, sym, refl, ap, ◌∙◌, subst, append_assoc, append-nil, add_assoc, arith, length-append, length-drop, length-take-le, take_all, drop-drop, ◌/◌, ◌%◌, ◌∷◌, ◌<◌, set, add-one}
+use lib.Seq.{drop-append-add, take-append_seam, set_split}
 use Rattle.std.proofs.lemmas.List.{drop_all}
 use borrow.Rule.Slice.PartMut.{put_mid}
 use Rattle.wire.specs.Bytes.{in_bytes}
@@ -64,8 +64,50 @@ pub wrote_front : {xs ys xs' : List ℕ} {n : ℕ} → Wrote xs 0 ys xs' n → x
 unfolding written
 wrote_front {xs} {ys} w = w.bytes ∙ ap (λ k. ys ++ drop k xs) (omega arith)
 
+four : {a b c d a' b' c' d' : ℕ} → a ≡ a' → b ≡ b' → c ≡ c' → d ≡ d' → (a ∷ b ∷ c ∷ d ∷ []) ≡ (a' ∷ b' ∷ c' ∷ d' ∷ [])
+four p q r s = λ i. p i ∷ q i ∷ r i ∷ s i ∷ []
+
+-- a number in two, four and eight bytes is its two halves
+pub halves_2 : (x : ℕ) → in_bytes 2 x ≡ x / 256 ∷ x % 256 ∷ []
+halves_2 x = ap (λ b. x / 256 ∷ b ∷ []) (omega arith)
+
+pub halves_4 : (x : ℕ) → in_bytes 4 x ≡ in_bytes 2 (x / 65536) ++ in_bytes 2 (x % 65536)
+halves_4 x = four (omega arith) (omega arith) (omega arith) (omega arith)
+
+-- a number in more than four bytes is the upper ones and the last four
+upper_1 : (x : ℕ) → in_bytes 5 x ≡ in_bytes 1 (x / 4294967296) ++ in_bytes 4 (x % 4294967296)
+upper_1 x = ap (λ b. b ∷ in_bytes 4 (x % 4294967296)) (omega arith)
+
+joined : (w : ℕ) {a a' u u' l l' : ℕ} → a ≡ a' → u ≡ u' → l ≡ l' → (a ∷ (in_bytes w u ++ in_bytes 4 l)) ≡ (a' ∷ (in_bytes w u' ++ in_bytes 4 l'))
+joined w p q r = λ i. p i ∷ (in_bytes w (q i) ++ in_bytes 4 (r i))
+
+upper_2 : (x : ℕ) → in_bytes 6 x ≡ in_bytes 2 (x / 4294967296) ++ in_bytes 4 (x % 4294967296)
+upper_2 x = ap (λ bs. x / 1099511627776 ∷ bs) (upper_1 (x % 1099511627776)) ∙ joined 1 (omega arith) (omega arith) (omega arith)
+
+upper_3 : (x : ℕ) → in_bytes 7 x ≡ in_bytes 3 (x / 4294967296) ++ in_bytes 4 (x % 4294967296)
+upper_3 x = ap (λ bs. x / 281474976710656 ∷ bs) (upper_2 (x % 281474976710656)) ∙ joined 2 (omega arith) (omega arith) (omega arith)
+
+pub halves_8 : (x : ℕ) → in_bytes 8 x ≡ in_bytes 4 (x / 4294967296) ++ in_bytes 4 (x % 4294967296)
+halves_8 x = ap (λ bs. x / 72057594037927936 ∷ bs) (upper_3 (x % 72057594037927936)) ∙ joined 3 (omega arith) (omega arith) (omega arith)
+
 pub wrote_as : {xs ys zs xs' : List ℕ} {at at' : ℕ} → zs ≡ ys → Wrote xs at ys xs' at' → Wrote xs at zs xs' at'
 wrote_as {xs} {xs' = xs'} {at} {at'} e w = subst (λ (b : List ℕ). Wrote xs at b xs' at') (sym e) w
+
+pub wrote_halves_2 : {xs xs' : List ℕ} {at at' : ℕ} (x : ℕ) → Wrote xs at (x / 256 ∷ x % 256 ∷ []) xs' at' → Wrote xs at (in_bytes 2 x) xs' at'
+wrote_halves_2 x w = wrote_as (halves_2 x) w
+
+pub wrote_halves_4 : {xs xs' : List ℕ} {at at' : ℕ} (x : ℕ) → Wrote xs at (in_bytes 2 (x / 65536) ++ in_bytes 2 (x % 65536)) xs' at' → Wrote xs at (in_bytes 4 x) xs' at'
+wrote_halves_4 x w = wrote_as (halves_4 x) w
+
+pub wrote_halves_8 : {xs xs' : List ℕ} {at at' : ℕ} (x : ℕ) → Wrote xs at (in_bytes 4 (x / 4294967296) ++ in_bytes 4 (x % 4294967296)) xs' at' → Wrote xs at (in_bytes 8 x) xs' at'
+wrote_halves_8 x w = wrote_as (halves_8 x) w
+
+-- one byte
+pub wrote_byte : (xs : List ℕ) (a x : ℕ) → a < length xs → Wrote xs a (x ∷ []) (set xs a x) (a + 1)
+unfolding written
+wrote_byte xs a x h =
+    let e : set xs a x ≡ written xs a (x ∷ []) = set_split xs a x h ∙ ap (λ k. take a xs ++ (x ∷ drop k xs)) (sym (add-one a)) in
+    record { room = omega arith; bytes = e; place = refl; size = ap length e ∙ written_length xs (x ∷ []) a (omega arith) }
 
 -- the buffer under another name
 pub wrote_into : {xs ys zs vs : List ℕ} {at a : ℕ} → Wrote xs at ys zs a → vs ≡ zs → Wrote xs at ys vs a

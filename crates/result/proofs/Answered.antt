@@ -1,10 +1,14 @@
 -- How long a result is, and what its writing answers.
-use Rattle.std.proofs.Common.{◌≡◌, ℕ, zero, suc, ◌+◌, ◌*◌, ◌≤◌, true, false, cond, List, [], ◌∷◌, ◌++◌, length, sym, ap, ◌∙◌, add-one, arith, length-append}
+use Rattle.std.proofs.Common.{◌≡◌, ℕ, zero, suc, ◌+◌, ◌*◌, ◌≤◌, true, false, cond, List, [], ◌∷◌, ◌++◌, length, sym, ap, ◌∙◌, add-one, arith, length-append, Bool, Some, None, refl, inl, inr, lt-ltb}
+use Rattle.std.proofs.lemmas.List.{get_or_past}
+use Rattle.std.proofs.lemmas.Bool.{cases_lt}
 use Rattle.terms.specs.Dockets.{day_of, roll_of}
 use Rattle.terms.specs.declared.currency.Currency.{Currency}
 use Rattle.terms.specs.declared.cycle.Cycle.{Cycle}
-use Rattle.clearing.specs.Choices.{entry_at}
-use Rattle.table.specs.Entries.{entries_of}
+use Rattle.clearing.specs.declared.entry.Entry.{Entry}
+use Rattle.session.specs.declared.session.mark.Mark.TheVariants.{Unmarked, Kept, Withdrawn, Returned}
+use Rattle.clearing.specs.Choices.{entry_at, no_entry}
+use Rattle.table.specs.Entries.{entries_of, entry_in, kept_of}
 use Rattle.pen.specs.Buffer.{Wrote, fronted}
 use Rattle.pen.proofs.Lent.{wrote_as, wrote_front, wrote_more}
 use Rattle.table.proofs.Held.{held_long}
@@ -18,6 +22,25 @@ use Rattle.result.specs.Value.{is_withdrawn, line_at, lines_of, result_of, withd
 use Rattle.result.proofs.Gathering.{gathered_more, gathered_none, gathered_ones}
 use Rattle.result.proofs.Numbers.{sum_low}
 use Rattle.result.proofs.Written.{members_long, withdrawn_long}
+
+-- nothing past the last entry is withdrawn
+pub withdrawn_past : (s : Session) (i : ℕ) → length (entries_of s.table) ≤ i → [] ≡ withdrawn_at s i
+withdrawn_past s i h =
+    let es = entries_of s.table in
+    let k = kept_of s.table i in
+    let e : entry_at es i ≡ no_entry = get_or_past es i no_entry h in
+    let at : Bool → Bool → List Entry = λ c b. cond (is_withdrawn (cond c (cond b Returned (cond k Kept Withdrawn)) Unmarked)) (entry_at es i ∷ []) [] in
+    let none : (c : Bool) → at c true ≡ [] = λ c. elim c as (λ v. at v true ≡ []) [ true ↦ refl | false ↦ refl ] in
+    sym (ap (λ (x : Entry). at s.cleared x.returned) e ∙ none s.cleared)
+
+-- nor where no entry stands
+pub withdrawn_none : (s : Session) (i : ℕ) → None ≡ entry_in (entries_of s.table) i → [] ≡ withdrawn_at s i
+withdrawn_none s i e =
+    let es = entries_of s.table in
+    elim (cases_lt i (length es)) [
+      | inl l ↦ absurd (let f : None ≡ Some (entry_at es i) = e ∙ ap (λ b. cond b (Some (entry_at es i)) None) (lt-ltb i (length es) l) in let z : ◌≡◌ {A = ℕ} 0 1 = cc in omega arith)
+      | inr l ↦ withdrawn_past s i l
+    ]
 
 -- 9 bytes for the header, 21 for each member, 18 for each withdrawn record and 15 for the totals
 pub result_long : (s : Session) → length (result_bytes s) ≡ length (roll_of s.docket) * 21 + length (withdrawn_of s) * 18 + 24

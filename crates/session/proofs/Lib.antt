@@ -4,3 +4,4 @@ pub mod Found
 pub mod Going
 pub mod Orders
 pub mod Rolls
+pub mod Within

@@ -13,6 +13,10 @@ abbrev pub NoneHolds : List Rule → Type 0
 NoneHolds [] = Unit {0}
 NoneHolds (r ∷ rs) = (r.holds ≡ false) × NoneHolds rs
 
+pub none_hold : (rs : List Rule) → NoneHolds rs → first_holding rs ≡ None
+none_hold [] h = refl
+none_hold (r ∷ rs) h = ap (λ b. cond b (Some r.refusal) (first_holding rs)) h.0 ∙ none_hold rs h.1
+
 pub unless_ok : {X : Type 0} (o : Option Refusal) (x y : X) → unless o x ≡ Ok y → x ≡ y
 unless_ok None x y e = cc
 unless_ok (Some c) x y e = let z : ◌≡◌ {A = ℕ} 0 1 = cc in absurd (omega arith)

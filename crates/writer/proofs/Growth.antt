@@ -1,5 +1,5 @@
 -- What each record written makes of the file or the batch that a buffer stands for.
-use Rattle.std.proofs.Common.{◌≡◌, ℕ, ◌+◌, ◌<◌, ◌≤◌, Bool, true, false, cond, List, [], ◌∷◌, ◌++◌, length, take, drop, Some, None, Option, sym, refl, ap, ◌∙◌, subst, append_assoc, append-nil, arith, length-append, length-drop, take_at, ltb-false, ltb-true, leb-false}
+use Rattle.std.proofs.Common.{◌≡◌, ℕ, ◌+◌, ◌<◌, ◌≤◌, Bool, true, false, cond, List, [], ◌∷◌, ◌++◌, length, take, drop, Some, None, Option, sym, refl, ap, ◌∙◌, subst, append_assoc, append-nil, arith, length-append, length-drop, take_at, ltb-false, ltb-true, leb-false, leb-true}
 use native.Mathlib.Nat.{min-le_left, min-le_right}
 use borrow.Author.Tests.{both_ways}
 use Rattle.terms.specs.declared.file_kind.FileKind.{FileKind}
@@ -155,6 +155,15 @@ due_none None n len e q h = omega (arith, leb-false _ _ e)
 due_on : (o : Option Refusal) (n len : ℕ) → end_due o n len ≡ true → o ≡ None
 due_on (Some c) n len e = absurd (both_ways false refl e)
 due_on None n len e = refl
+
+pub due_space : (o : Option Refusal) (n len : ℕ) → end_due o n len ≡ true → len + 27 ≤ bound n
+due_space (Some c) n len e = absurd (both_ways false refl e)
+due_space None n len e = leb-true _ _ e
+
+-- a batch opened against its check, closed
+pub left_open : (d : BatchDraft) (old out : List ℕ) (p : Progress) (o : Option Refusal) → end_due o (length out) p.len ≡ false → StandsIn d old out p o → Stands (closed d) old out p
+left_open (turned c d) old out p o e s = s.0
+left_open (drafting f b) old out p o e s = absurd (due_none o _ _ e s.1 (subst (λ k. p.len + 27 ≤ bound k) (sym (within_size f b old out p s.0)) (omega (arith, s.0.room))))
 
 closed_upto : (f : FileValue) (b : BatchValue) (old out out' : List ℕ) (p : Progress) (m : ℕ) → Within f b old out p → FitsTotals p.held → Wrote out p.len (enc_record BatchEnd (enc_closing p.last p.held)) out' m → Upto (with_batch f b) old out' (closed_at p)
 closed_upto f b old out out' p m s small w =
