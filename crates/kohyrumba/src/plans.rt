@@ -11,11 +11,14 @@ use std::{fs, io};
 // The longest result: a header, 64 members, 4,096 withdrawn records and the end.
 const RESULT_MOST_BYTES: usize = 75_096;
 
-// The sitting after a plan of that name.
-fn sitting_of(rt: &HostRuntime, shelf: Shelf, name: &str, plan: &str) -> anyhow::Result<Sitting> {
-    let mut sitting = Sitting::new(rt.alloc(), shelf);
-    shown(rt, name, sitting.carry_out(rt, plan))?;
-    Ok(sitting)
+// Carries out a plan of that name. The sitting is lent: it holds a whole session, which would take much of the stack to hand on.
+fn carry_out(
+    rt: &HostRuntime,
+    sitting: &mut Sitting,
+    name: &str,
+    plan: &str,
+) -> anyhow::Result<()> {
+    shown(rt, name, sitting.carry_out(rt, plan))
 }
 
 // The bytes of the session's result.
@@ -31,25 +34,23 @@ fn save(rt: &HostRuntime, path: &str, bytes: &[u8]) -> io::Result<()> {
     println!(rt; "{path}: result of {} bytes", bytes.len())
 }
 
-// Carries out the plan of that name.
-fn planned(rt: &HostRuntime, name: &str) -> anyhow::Result<Sitting> {
+// Carries out the plan in the file of that name, and writes the result where it is wanted.
+fn run_file(rt: &HostRuntime, name: &str, result_path: Option<&str>) -> anyhow::Result<()> {
     let plan = shown(rt, name, fs::read_to_string(rt, name))?;
-    sitting_of(rt, Shelf::Disk, name, plan.as_str())
+    let mut sitting = Sitting::new(rt.alloc(), Shelf::Disk);
+    carry_out(rt, &mut sitting, name, plan.as_str())?;
+    let Some(path) = result_path else {
+        return Ok(());
+    };
+    let bytes = result_of(rt, sitting.session())?;
+    shown(rt, path, save(rt, path, &bytes))
 }
 
 pub(crate) fn run_plan(rt: &HostRuntime, words: &[&str]) -> anyhow::Result<()> {
     match words {
-        [plan] => {
-            let _ = planned(rt, plan)?;
-            Ok(())
-        }
-        [plan, option, path] => {
-            if *option != "--result" {
-                return bad_usage(rt, "session: no such option");
-            }
-            let bytes = result_of(rt, planned(rt, plan)?.session())?;
-            shown(rt, path, save(rt, path, &bytes))
-        }
+        [plan] => run_file(rt, plan, None),
+        [plan, "--result", path] => run_file(rt, plan, Some(*path)),
+        [_, _, _] => bad_usage(rt, "session: no such option"),
         _ => bad_usage(rt, "session: PLAN [--result PATH] is wanted"),
     }
 }
@@ -58,7 +59,8 @@ pub(crate) fn run_demo(rt: &HostRuntime, words: &[&str]) -> anyhow::Result<()> {
     if !words.is_empty() {
         return bad_usage(rt, "demo: nothing more is wanted");
     }
-    let sitting = sitting_of(rt, Shelf::Demo, "demo", demo::PLAN)?;
+    let mut sitting = Sitting::new(rt.alloc(), Shelf::Demo);
+    carry_out(rt, &mut sitting, "demo", demo::PLAN)?;
     let bytes = result_of(rt, sitting.session())?;
     println!(rt; "result of {} bytes: {}", bytes.len(), Hexadecimal(&bytes))?;
     Ok(())

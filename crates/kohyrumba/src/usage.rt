@@ -59,7 +59,7 @@ pub(crate) fn show_error<E: fmt::Display>(
     eprintln!(rt; "kohyrumba: {name}: {error}")
 }
 
-// What a step with that file gave; one that failed is shown.
+// What a step with that file gave; one that failed is shown, so that the error says no more than that it failed.
 pub(crate) fn shown<T: Drop, E: fmt::Display + Drop>(
     rt: &HostRuntime,
     name: &str,
@@ -69,7 +69,7 @@ pub(crate) fn shown<T: Drop, E: fmt::Display + Drop>(
         Ok(value) => Ok(value),
         Err(error) => {
             show_error(rt, name, &error)?;
-            Err(anyhow!("{name}: {error}"))
+            Err(anyhow!("a step failed"))
         }
     }
 }

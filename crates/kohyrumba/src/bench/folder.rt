@@ -68,7 +68,9 @@ fn show(
     Ok(())
 }
 
-// Judges the files, without a session.
+// Judges the files, without a session. This and the jobs below are not inlined: each has sessions of its own on the stack, and in one
+// function they would all stand there at once.
+#[inline(never)]
 fn bench_check(rt: &HostRuntime, input: &Input) -> anyhow::Result<()> {
     let (verdicts, best) = best_of(rt, || Ok(()), |()| Verdicts::on(&input.files))?;
     show(
@@ -81,6 +83,7 @@ fn bench_check(rt: &HostRuntime, input: &Input) -> anyhow::Result<()> {
 }
 
 // Takes the files in, into a new session each turn; the places are made before the clock starts.
+#[inline(never)]
 fn bench_intake(rt: &HostRuntime, input: &Input) -> anyhow::Result<()> {
     let mut out = vec![in rt.alloc(); 0u8; OUTCOMES]?;
     let (last, best) = best_of(
@@ -96,6 +99,7 @@ fn bench_intake(rt: &HostRuntime, input: &Input) -> anyhow::Result<()> {
 }
 
 // Clears the session over and over, each time from all its records.
+#[inline(never)]
 fn bench_clear<R: Ranking>(
     rt: &HostRuntime,
     session: Session,
@@ -120,6 +124,7 @@ fn bench_clear<R: Ranking>(
 }
 
 // Clears the session once, and writes its result over and over.
+#[inline(never)]
 fn bench_result<R: Ranking>(
     rt: &HostRuntime,
     session: Session,
@@ -143,6 +148,7 @@ fn bench_result<R: Ranking>(
     show(rt, "result", session.held(), best.picoseconds(REPEATS), sum)
 }
 
+#[inline(never)]
 fn bench_cleared<R: Ranking>(
     rt: &HostRuntime,
     job: Option<Job>,
