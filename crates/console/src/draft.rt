@@ -78,7 +78,11 @@ impl Draft {
         let mut bytes = buffer(heap, self.size)?;
         let mut newest = check_file(&bytes, self.header);
         let mut file = FileOpen::open(&mut bytes, self.header);
-        for batch in self.batches.iter().chain(self.current.as_slice()) {
+        for batch in &self.batches {
+            file = put_batch(file, batch, &mut newest);
+        }
+        // Apart: with a chain of both, a draft of many batches that are refused takes half as long again.
+        if let Some(batch) = &self.current {
             file = put_batch(file, batch, &mut newest);
         }
         let len = file.finish().len;
@@ -90,7 +94,8 @@ impl Draft {
     }
 }
 
-// Puts a batch as it was put before, the refused rows too.
+// Puts a batch as it was put before, the refused rows too. Inlined: a call would copy the state of the file twice for each batch.
+#[inline(always)]
 fn put_batch<'b>(
     file: FileOpen<'b>,
     batch: &Batch,

@@ -33,5 +33,9 @@ pub fn bytes_in(heap: Global, word: &str) -> Result<Vec<u8>, Misread> {
     if word == "-" {
         return Ok(Vec::new(heap));
     }
+    // Before any memory is taken, so that a word with another character takes none.
+    if !word.as_bytes().iter().all(|byte| byte.is_ascii_hexdigit()) {
+        return Err(Misread::Hexadecimal);
+    }
     Ok(hex::decode(heap, word)?)
 }
