@@ -68,8 +68,8 @@ fn show(
     Ok(())
 }
 
-// Judges the files, without a session. This and the jobs below are not inlined: each has sessions of its own on the stack, and in one
-// function they would all stand there at once.
+// Judges the files, without a session. This and the next are not inlined into the function that chooses among the jobs: what they hold,
+// sessions among it, would stand on the stack beside those of all the others.
 #[inline(never)]
 fn bench_check(rt: &HostRuntime, input: &Input) -> anyhow::Result<()> {
     let (verdicts, best) = best_of(rt, || Ok(()), |()| Verdicts::on(&input.files))?;
@@ -99,7 +99,6 @@ fn bench_intake(rt: &HostRuntime, input: &Input) -> anyhow::Result<()> {
 }
 
 // Clears the session over and over, each time from all its records.
-#[inline(never)]
 fn bench_clear<R: Ranking>(
     rt: &HostRuntime,
     session: Session,
@@ -124,7 +123,6 @@ fn bench_clear<R: Ranking>(
 }
 
 // Clears the session once, and writes its result over and over.
-#[inline(never)]
 fn bench_result<R: Ranking>(
     rt: &HostRuntime,
     session: Session,
@@ -148,7 +146,6 @@ fn bench_result<R: Ranking>(
     show(rt, "result", session.held(), best.picoseconds(REPEATS), sum)
 }
 
-#[inline(never)]
 fn bench_cleared<R: Ranking>(
     rt: &HostRuntime,
     job: Option<Job>,
