@@ -81,7 +81,7 @@ impl Draft {
         for batch in &self.batches {
             file = put_batch(file, batch, &mut newest);
         }
-        // Apart: with a chain of both, a draft of many batches that are refused takes half as long again.
+        // Apart: with a chain of both, a draft of many batches that are refused takes two fifths longer.
         if let Some(batch) = &self.current {
             file = put_batch(file, batch, &mut newest);
         }
